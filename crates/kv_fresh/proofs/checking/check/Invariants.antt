@@ -1,0 +1,11 @@
+use Rattle.std.proofs.Common.{◌≡◌, true, drop}
+use Rattle.std.specs.List.{list_all}
+use Rattle.kv_syn.specs.Readable.{is_readable_unit}
+use Rattle.kv_syn.specs.Rows.{has_table_rows}
+use Rattle.kv_fresh.proofs.checking.check.Given as goal
+
+abbrev pub invariant-loop-unit : goal.invariant-loop-unit
+invariant-loop-unit g l = record {
+  rows : has_table_rows l.checked.table ≡ true;
+  readable : list_all is_readable_unit (drop l.unit-index l.project.units) ≡ true;
+}

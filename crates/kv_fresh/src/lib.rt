@@ -1,0 +1,8 @@
+//! The plain check: the states of a whole project, from nothing but the project.
+#![tactic(auto)]
+
+mod checking;
+mod reasons;
+mod rows;
+
+pub use checking::check;

@@ -1,0 +1,4 @@
+pub mod Grammar
+pub mod Parse
+pub mod Gives
+pub mod Nests

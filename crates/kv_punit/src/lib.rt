@@ -1,0 +1,14 @@
+//! Readers of projects and commands.
+#![tactic(auto)]
+
+mod commands;
+mod errors;
+mod labels;
+mod projects;
+mod scripts;
+mod tokens;
+mod units;
+
+pub use commands::Command;
+pub use errors::{TextError, Which};
+pub use projects::project;

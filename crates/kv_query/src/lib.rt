@@ -1,0 +1,7 @@
+//! Answers to queries.
+#![tactic(auto)]
+
+mod lines;
+mod replies;
+
+pub use replies::reply;

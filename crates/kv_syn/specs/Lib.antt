@@ -1,0 +1,11 @@
+pub mod formers
+pub mod Trees
+pub mod Bridge
+pub mod RawTrees
+pub mod RawBridge
+pub mod Scripts
+pub mod ScriptBridge
+pub mod Count
+pub mod RawCount
+pub mod Readable
+pub mod Rows

@@ -1,0 +1,15 @@
+// Projects.
+
+ghost use Rattle.std.specs.Prelude.{◌≡◌, true};
+ghost use Rattle.std.specs.List.{list_all};
+ghost use Rattle.kv_syn.specs.Readable.{is_readable_unit};
+
+use crate::lists::List;
+use crate::units::Unit;
+
+/// A project: its units in order, each of a form that the texts of projects have so far.
+#[derive(Drop)]
+pub struct Project {
+    pub units: List<Unit>,
+    ghost readable: { list_all is_readable_unit units ≡ true },
+}
