@@ -1,3 +1,4 @@
 pub mod Typed
 pub mod Scopes
 pub mod Elab
+pub mod Lawful

@@ -1,13 +1,16 @@
 // Typing of formulas and programs.
 
-ghost use Rattle.std.specs.Prelude.{◌≡◌, OnOk};
+ghost use Rattle.std.specs.Prelude.{◌≡◌, [], OnOk, IfOk};
 ghost use Rattle.kv_syn.specs.Bridge.{plain_form, plain_prog};
 ghost use Rattle.kv_syn.specs.RawBridge.{raw_term, raw_terms, raw_form, raw_prog};
 ghost use Rattle.kv_syn.specs.RawTrees.{RawForm as FormTree, RawProg as ProgTree};
+ghost use Rattle.kv_sig.specs.Typing.{IsForm, IsProg};
+ghost use Rattle.kv_sig.specs.FreeNames.{IsClosed};
 ghost use Rattle.kv_elab.specs.Scopes.{under};
 ghost use Rattle.kv_syn.specs.declared.symbols.Var.{Var as VarValue};
 ghost use Rattle.kv_elab.specs.declared.contexts.Context.{Context as ContextValue};
 ghost use Rattle.kv_elab.specs.Typed.{Gives};
+ghost use Rattle.kv_elab.specs.Lawful.{sorts_of, IsLawful, IsWithin};
 ghost use Rattle.kv_elab.specs.Elab.{elab_sort, elab_condition, elab_form, elab_prog};
 
 use crate::calls::{typed_call, typed_place};
@@ -29,6 +32,15 @@ pub fn elaborate(
     context: &Context,
     raw: &RawForm,
 ) -> Result<Form, TypeError>
+    ensures value { Gives plain_form result (elab_form sig.now context.now (raw_form raw.now)) }
+    ensures typed { IfOk result (λ form. IsLawful sig.now context.now → IsForm sig.now (sorts_of context.now) (plain_form form)) }
+    ensures names { IfOk result (λ form. IsWithin context.now (plain_form form)) }
+    ensures closed { IfOk result (λ form. context.now.free ≡ [] → context.now.assumed ≡ [] → IsClosed (plain_form form)) }
+{
+    form_in(alloc, sig, context, raw)
+}
+
+fn form_in(alloc: Global, sig: &Sig, context: &Context, raw: &RawForm) -> Result<Form, TypeError>
     ensures { Gives plain_form result (elab_form sig.now context.now (raw_form raw.now)) }
 {
     let mut scope = context.copy(alloc)?;
@@ -42,6 +54,13 @@ pub fn elaborate_prog(
     context: &Context,
     raw: &RawProg,
 ) -> Result<Prog, TypeError>
+    ensures value { Gives plain_prog result (elab_prog sig.now context.now (raw_prog raw.now)) }
+    ensures typed { IfOk result (λ prog. IsLawful sig.now context.now → IsProg sig.now (sorts_of context.now) (plain_prog prog)) }
+{
+    prog_in(alloc, sig, context, raw)
+}
+
+fn prog_in(alloc: Global, sig: &Sig, context: &Context, raw: &RawProg) -> Result<Prog, TypeError>
     ensures { Gives plain_prog result (elab_prog sig.now context.now (raw_prog raw.now)) }
 {
     let mut scope = context.copy(alloc)?;

@@ -1,8 +1,10 @@
 // Typing of terms.
 
-ghost use Rattle.std.specs.Prelude.{◌≡◌, length};
+ghost use Rattle.std.specs.Prelude.{◌≡◌, IfOk, length};
 ghost use Rattle.kv_syn.specs.Bridge.{plain_term, plain_terms};
 ghost use Rattle.kv_syn.specs.RawBridge.{raw_term, raw_terms};
+ghost use Rattle.kv_sig.specs.Typing.{IsTerm};
+ghost use Rattle.kv_elab.specs.Lawful.{sorts_of, IsLawful};
 ghost use Rattle.kv_elab.specs.Typed.{Gives, and_then};
 ghost use Rattle.kv_elab.specs.Elab.{terms_count, of_sort, elab_term, elab_args};
 
@@ -20,7 +22,8 @@ pub fn elaborate_term(
     context: &Context,
     raw: &RawTerm,
 ) -> Result<(Term, Name), TypeError>
-    ensures { Gives (λ p. (plain_term p.0, p.1)) result (elab_term sig.now context.now (raw_term raw.now)) }
+    ensures value { Gives (λ p. (plain_term p.0, p.1)) result (elab_term sig.now context.now (raw_term raw.now)) }
+    ensures typed { IfOk result (λ p. IsLawful sig.now context.now → IsTerm sig.now (sorts_of context.now) (plain_term p.0) p.1) }
 {
     typed_term(alloc, sig, context, raw)
 }

@@ -1,8 +1,11 @@
 // Flattening a unit.
 
-ghost use Rattle.std.specs.Prelude.{◌≡◌, ◌+◌, true, IfOk, IfErr};
+ghost use Rattle.std.specs.Prelude.{◌≡◌, ◌+◌, true, map, List, [], ◌∷◌, Err, IfOk, IfErr};
 ghost use Rattle.std.specs.List.{list_all};
 ghost use Rattle.kv_flat.specs.Faults.{has_fault_row};
+ghost use Rattle.kv_flat.specs.Units.{Flattens, clash, declared, or_clash, signature_of, symbols_of};
+ghost use Rattle.kv_sig.specs.Signatures.{merged};
+ghost use Rattle.kv_syn.specs.ProjectBridge.{plain_item, plain_unit};
 ghost use Rattle.kv_syn.specs.Readable.{is_readable_unit, is_readable_item};
 
 use crate::flats::{Flats, Flattened};
@@ -36,7 +39,8 @@ impl From<NoMemory> for FlatError {
     }
 }
 
-/// What the theorems of the unit see, over the units that it uses. Counts one step.
+/// What the theorems of the unit see, over the units that it uses: so far the symbols of its items. `Bad` where a
+/// name is declared with two profiles. Counts one step.
 pub fn flatten<L: Ledger>(
     alloc: Global,
     unit: &Unit,
@@ -44,6 +48,7 @@ pub fn flatten<L: Ledger>(
     steps: &mut Steps<L>,
 ) -> Result<Flattened, FlatError>
     requires { is_readable_unit unit.now ≡ true }
+    ensures flat { Flattens (signature_of (plain_unit unit.now)) result }
     ensures bad { IfErr result (λ error. has_fault_row error ≡ true) }
     ensures steps { steps.new ≡ steps.old + 1 }
 {
@@ -56,12 +61,15 @@ pub fn flatten<L: Ledger>(
 
 fn basic(alloc: Global, items: &[Item]) -> Result<Flattened, FlatError>
     requires { list_all is_readable_item items.now ≡ true }
-    ensures { IfErr result (λ error. has_fault_row error ≡ true) }
+    ensures flat { Flattens (or_clash (merged [] (declared (map plain_item items.now)))) result }
+    ensures bad { IfErr result (λ error. has_fault_row error ≡ true) }
 {
     let mut sig = Sig::new(alloc);
     for item in items {
-        if let Err(error) = sig.add(symbol_of(alloc, item)?) {
-            return Err(clash(alloc, error));
+        match sig.add(symbol_of(alloc, item)?) {
+            Ok(()) => {}
+            Err(SigError::Clash { name }) => return Err(clash(alloc, &name)),
+            Err(SigError::NoMemory) => return Err(FlatError::NoMemory),
         }
     }
     let flat = Flat {
@@ -79,6 +87,7 @@ fn basic(alloc: Global, items: &[Item]) -> Result<Flattened, FlatError>
 /// The symbol that an item declares.
 fn symbol_of(alloc: Global, item: &Item) -> Result<Symbol, NoMemory>
     requires { is_readable_item item.now ≡ true }
+    ensures { IfOk result (λ symbol. symbols_of (plain_item item.now) ≡ symbol ∷ []) }
 {
     match item {
         Item::Pred { name, args } => Ok(Symbol {
@@ -92,21 +101,19 @@ fn symbol_of(alloc: Global, item: &Item) -> Result<Symbol, NoMemory>
 }
 
 /// The fault of a name that has two profiles.
-fn clash(alloc: Global, error: SigError) -> FlatError
-    ensures { has_fault_row result ≡ true }
+fn clash(alloc: Global, name: &Name) -> FlatError
+    ensures flat { Flattens (Err (clash name.now)) (Err result) }
+    ensures row { has_fault_row result ≡ true }
 {
-    match error {
-        SigError::Clash { name } => match named(alloc, reason::CLASH, &name) {
-            Ok(reason) => FlatError::Bad(reason),
-            Err(NoMemory) => FlatError::NoMemory,
-        },
-        SigError::NoMemory => FlatError::NoMemory,
+    match named(alloc, reason::CLASH, name) {
+        Ok(reason) => FlatError::Bad(reason),
+        Err(NoMemory) => FlatError::NoMemory,
     }
 }
 
 /// A reason with one name.
 fn named(alloc: Global, word: u32, name: &Name) -> Result<Reason, NoMemory>
-    ensures { IfOk result (λ reason. reason.word ≡ word) }
+    ensures { IfOk result (λ reason. reason ≡ record { word = word; names = name.now ∷ [] }) }
 {
     let mut names = List::new(alloc);
     names.push(Label::from_bytes(alloc, name.bytes())?)?;

@@ -1,0 +1,4 @@
+pub mod States
+pub mod Goals
+pub mod Tables
+pub mod Backing

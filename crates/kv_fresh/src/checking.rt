@@ -1,13 +1,23 @@
 // The check of a project.
 
-ghost use Rattle.std.specs.Prelude.{◌≡◌, true, IfOk, OnOk};
+ghost use Rattle.std.specs.Prelude.{◌≡◌, ◌++◌, ◌∷◌, [], map, true, Ok, Err, IfOk, OnOk};
 ghost use Rattle.std.specs.List.{list_all};
+ghost use Rattle.kv_flat.specs.Units.{signature_of};
+ghost use Rattle.kv_script.specs.Reasons.{reason_with};
+ghost use Rattle.kv_fresh.specs.States.{ill_row, row_of, rows_where, state_where, table_of};
+ghost use Rattle.kv_fresh.specs.Tables.{with_unit};
+ghost use Rattle.kv_syn.specs.ProjectBridge.{plain_project, plain_proof, plain_theorem, plain_unit};
+ghost use Rattle.kv_syn.specs.Projects as P;
 ghost use Rattle.kv_syn.specs.Readable.{is_readable_unit};
 ghost use Rattle.kv_syn.specs.Rows.{has_row_rows, has_table_rows, has_unit_state_rows};
+ghost use Rattle.kv_table.specs.declared.reason.TheConstants.{UNIT};
 
-use crate::rows::row;
-use kv_flat::{Checked, FlatError, FlatForm, FlatRow, Flattened, Judged, flatten};
+use crate::reasons::bare;
+use crate::rows::{ill_row, row};
+use kv_flat::{Checked, FlatError, FlatForm, FlatRow, Judged, flatten};
+use kv_sig::Flat;
 use kv_syn::{List, Name, NoMemory, Plain, Project, Row, Steps, Table, Unit, UnitState};
+use kv_table::reason;
 use std::alloc::Global;
 use std::sync::ledger::Ledger;
 
@@ -17,7 +27,8 @@ pub fn check<L: Ledger>(
     project: &Project,
     steps: &mut Steps<L>,
 ) -> Result<Checked, NoMemory>
-    ensures { IfOk result (λ checked. has_table_rows checked.table ≡ true) }
+    ensures table { IfOk result (λ checked. checked.table ≡ table_of (plain_project project.now)) }
+    ensures rows { IfOk result (λ checked. has_table_rows checked.table ≡ true) }
 {
     let mut checked = Checked {
         flats: List::new(alloc),
@@ -41,20 +52,17 @@ fn check_unit<L: Ledger>(
 ) -> Result<(), NoMemory>
     requires readable { is_readable_unit unit.now ≡ true }
     requires rows { has_table_rows checked.old.table ≡ true }
-    ensures { OnOk result (has_table_rows checked.new.table ≡ true) }
+    ensures table { OnOk result (checked.new.table ≡ with_unit checked.old.table (plain_unit unit.now)) }
+    ensures rows { OnOk result (has_table_rows checked.new.table ≡ true) }
 {
     match flatten(alloc, unit, &checked.flats, steps) {
         Ok(flattened) => {
-            push_rows(alloc, unit, &flattened, &mut checked.table.rows, steps)?;
-            note(
-                alloc,
-                &unit.name,
-                UnitState::Good,
-                Judged::Good(flattened),
-                checked,
-            )
+            push_rows(alloc, unit, &flattened.flat, &mut checked.table.rows, steps)?;
+            let judged = Judged::Good(flattened);
+            note(alloc, &unit.name, UnitState::Good, judged, checked)
         }
         Err(FlatError::Bad(reason)) => {
+            push_ill_rows(alloc, unit, &mut checked.table.rows)?;
             let state = UnitState::Bad(reason.copy(alloc)?);
             note(alloc, &unit.name, state, Judged::Bad(reason), checked)
         }
@@ -72,7 +80,9 @@ fn note(
 ) -> Result<(), NoMemory>
     requires state { has_unit_state_rows state ≡ true }
     requires rows { has_table_rows checked.old.table ≡ true }
-    ensures { OnOk result (has_table_rows checked.new.table ≡ true) }
+    ensures units { OnOk result (checked.new.table.units ≡ checked.old.table.units ++ (unit.now, state) ∷ []) }
+    ensures same { checked.new.table.rows ≡ checked.old.table.rows }
+    ensures rows { OnOk result (has_table_rows checked.new.table ≡ true) }
 {
     checked.table.units.push((unit.copy(alloc)?, state))?;
     checked.flats.push(FlatRow {
@@ -82,27 +92,33 @@ fn note(
     })
 }
 
-/// Adds the rows of the unit's theorems.
+/// Adds the rows of the theorems of a unit that sees this flat.
 fn push_rows<L: Ledger>(
     alloc: Global,
     unit: &Unit,
-    flattened: &Flattened,
+    flat: &Flat,
     rows: &mut List<Row>,
     steps: &mut Steps<L>,
 ) -> Result<(), NoMemory>
-    requires readable { is_readable_unit unit.now ≡ true }
-    requires rows { list_all has_row_rows rows.old ≡ true }
-    ensures { OnOk result (list_all has_row_rows rows.new ≡ true) }
+    requires { list_all has_row_rows rows.old ≡ true }
+    ensures added { OnOk result (rows.new ≡ rows.old ++ rows_where (plain_unit unit.now) (Ok flat.now.sig)) }
+    ensures rows { OnOk result (list_all has_row_rows rows.new ≡ true) }
 {
     for theorem in unit.theorems.items() {
-        rows.push(row(
-            alloc,
-            &unit.name,
-            &flattened.flat,
-            unit.proofs.items(),
-            theorem,
-            steps,
-        )?)?;
+        rows.push(row(alloc, &unit.name, flat, unit.proofs.items(), theorem, steps)?)?;
+    }
+    Ok(())
+}
+
+/// Adds the rows of the theorems of a bad unit.
+fn push_ill_rows(alloc: Global, unit: &Unit, rows: &mut List<Row>) -> Result<(), NoMemory>
+    requires { list_all has_row_rows rows.old ≡ true }
+    ensures added { OnOk result (rows.new ≡ rows.old ++ map (λ (theorem : P.Theorem). ill_row unit.now.name theorem.name (reason_with UNIT [])) (plain_unit unit.now).theorems) }
+    ensures rows { OnOk result (list_all has_row_rows rows.new ≡ true) }
+{
+    for theorem in unit.theorems.items() {
+        let reason = bare(alloc, reason::UNIT);
+        rows.push(ill_row(alloc, &unit.name, &theorem.name, reason)?)?;
     }
     Ok(())
 }

@@ -2,7 +2,9 @@
 #![tactic(auto)]
 
 mod checking;
+mod laws;
 mod reasons;
 mod rows;
 
 pub use checking::check;
+pub use laws::backing;

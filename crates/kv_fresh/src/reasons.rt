@@ -1,6 +1,8 @@
 // Reasons.
 
-ghost use Rattle.std.specs.Prelude.{◌≡◌, ◌<◌, true, IfOk};
+ghost use Rattle.std.specs.Prelude.{◌≡◌, ◌≢◌, true, [], ◌∷◌, IfOk};
+ghost use Rattle.kv_script.specs.Reasons.{reason_with};
+ghost use Rattle.kv_fresh.specs.States.{typing_reason};
 ghost use Rattle.kv_syn.specs.Rows.{has_reason_row};
 
 use kv_elab::TypeError;
@@ -10,7 +12,7 @@ use std::alloc::Global;
 
 /// A reason without names.
 pub fn bare(alloc: Global, word: u32) -> Reason
-    ensures { result.word ≡ word }
+    ensures { result ≡ reason_with word [] }
 {
     Reason {
         word,
@@ -20,7 +22,7 @@ pub fn bare(alloc: Global, word: u32) -> Reason
 
 /// A reason with one name.
 fn named(alloc: Global, word: u32, name: &Name) -> Result<Reason, NoMemory>
-    ensures { IfOk result (λ reason. reason.word ≡ word) }
+    ensures { IfOk result (λ reason. reason ≡ reason_with word (name.now ∷ [])) }
 {
     let mut names = List::new(alloc);
     names.push(Label::from_bytes(alloc, name.bytes())?)?;
@@ -29,7 +31,7 @@ fn named(alloc: Global, word: u32, name: &Name) -> Result<Reason, NoMemory>
 
 /// A reason with two names.
 fn named_two(alloc: Global, word: u32, one: &Name, two: &Name) -> Result<Reason, NoMemory>
-    ensures { IfOk result (λ reason. reason.word ≡ word) }
+    ensures { IfOk result (λ reason. reason ≡ reason_with word (one.now ∷ two.now ∷ [])) }
 {
     let mut names = List::new(alloc);
     names.push(Label::from_bytes(alloc, one.bytes())?)?;
@@ -37,9 +39,11 @@ fn named_two(alloc: Global, word: u32, one: &Name, two: &Name) -> Result<Reason,
     Ok(Reason { word, names })
 }
 
-/// The reason of a fault of typing.
+/// The reason of a fault of typing, which isn't want of memory.
 pub fn typing_reason(alloc: Global, error: &TypeError) -> Result<Reason, NoMemory>
-    ensures { IfOk result (λ reason. has_reason_row reason ≡ true) }
+    ensures reason { IfOk result (λ reason. reason ≡ typing_reason error.now) }
+    ensures fault { IfOk result (λ reason. error.now ≢ TypeError.NoMemory) }
+    ensures row { IfOk result (λ reason. has_reason_row reason ≡ true) }
 {
     match error {
         TypeError::Unknown { name } => named(alloc, reason::UNKNOWN, name),

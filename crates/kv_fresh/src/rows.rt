@@ -1,7 +1,17 @@
 // The row of a theorem.
 
-ghost use Rattle.std.specs.Prelude.{◌≡◌, true, IfOk, IfErr};
-ghost use Rattle.kv_syn.specs.Rows.{has_fault_rows, has_reason_row, has_state_rows};
+ghost use Rattle.std.specs.Prelude.{◌≡◌, true, map, None, Ok, Err, IfOk, IfErr};
+ghost use Rattle.std.specs.List.{find};
+ghost use Rattle.std.specs.Option.{option_map};
+ghost use Rattle.std.specs.Str.{bytes_eq};
+ghost use Rattle.kv_fresh.specs.Goals.{GoalIs};
+ghost use Rattle.kv_fresh.specs.States.{goal_of, ill_row, nothing_around, replayed_row, row_of, script_of, shown, small_goal};
+ghost use Rattle.kv_script.specs.Events.{outcome_of, replay_events};
+ghost use Rattle.kv_syn.specs.Bridge.{plain_form};
+ghost use Rattle.kv_syn.specs.ProjectBridge.{plain_proof, plain_theorem};
+ghost use Rattle.kv_syn.specs.Projects as P;
+ghost use Rattle.kv_syn.specs.Rows.{has_fault_rows, has_reason_row, has_row_rows, has_state_rows};
+ghost use Rattle.kv_syn.specs.ScriptBridge.{plain_script};
 
 use crate::reasons::{bare, typing_reason};
 use kv_elab::{Context, elaborate};
@@ -25,58 +35,83 @@ pub fn row<L: Ledger>(
     theorem: &Theorem,
     steps: &mut Steps<L>,
 ) -> Result<Row, NoMemory>
-    ensures { IfOk result (λ row. has_state_rows row.state ≡ true) }
+    ensures row { IfOk result (λ row. row ≡ row_of unit.now flat.now.sig (map plain_proof proofs.now) (plain_theorem theorem.now)) }
+    ensures rows { IfOk result (λ row. has_row_rows row ≡ true) }
 {
-    let unit = unit.copy(alloc)?;
-    let name = Label::from_bytes(alloc, theorem.name.bytes())?;
-    let goal = match goal_of(alloc, flat, theorem)? {
-        Ok(goal) => goal,
-        Err(reason) => return Ok(ill(unit, name, reason)),
-    };
-    let outcome = replayed(alloc, flat, &goal, proofs, &theorem.name, steps)?;
-    shown(alloc, unit, name, outcome)
-}
-
-/// The row of a theorem that can't be asked for.
-fn ill(unit: Name, name: Label, reason: Reason) -> Row
-    requires { has_reason_row reason ≡ true }
-    ensures { has_state_rows result.state ≡ true }
-{
-    Row {
-        unit,
-        name,
-        state: State::Ill(reason),
-        outcome: None,
+    match goal_of(alloc, flat, theorem)? {
+        Ok(goal) => {
+            let outcome = replayed(alloc, flat, &goal, proofs, &theorem.name, steps)?;
+            replayed_row(alloc, unit, &theorem.name, outcome)
+        }
+        Err(reason) => ill_row(alloc, unit, &theorem.name, reason),
     }
 }
 
-/// The row of a theorem whose proof was replayed.
-fn shown(alloc: Global, unit: Name, name: Label, outcome: Outcome) -> Result<Row, NoMemory>
-    requires { has_fault_rows outcome.broken ≡ true }
-    ensures { IfOk result (λ row. has_state_rows row.state ≡ true) }
+/// The row of a theorem that can't be asked for.
+pub fn ill_row(alloc: Global, unit: &Name, theorem: &Name, reason: Reason) -> Result<Row, NoMemory>
+    requires { has_reason_row reason ≡ true }
+    ensures row { IfOk result (λ row. row ≡ ill_row unit.now theorem.now reason) }
+    ensures rows { IfOk result (λ row. has_row_rows row ≡ true) }
 {
-    let state = state_of(alloc, &outcome)?;
     Ok(Row {
-        unit,
-        name,
-        state,
+        unit: unit.copy(alloc)?,
+        name: Label::from_bytes(alloc, theorem.bytes())?,
+        state: State::Ill(reason),
+        outcome: None,
+    })
+}
+
+/// The row of a theorem whose proof was replayed.
+fn replayed_row(
+    alloc: Global,
+    unit: &Name,
+    theorem: &Name,
+    outcome: Outcome,
+) -> Result<Row, NoMemory>
+    requires { has_fault_rows outcome.broken ≡ true }
+    ensures row { IfOk result (λ row. row ≡ replayed_row unit.now theorem.now outcome) }
+    ensures rows { IfOk result (λ row. has_row_rows row ≡ true) }
+{
+    Ok(Row {
+        unit: unit.copy(alloc)?,
+        name: Label::from_bytes(alloc, theorem.bytes())?,
+        state: state_of(alloc, &outcome)?,
         outcome: Some(outcome),
     })
 }
 
 /// The theorem's formula, or why it is ill: its fault of typing, or that it is too large.
 fn goal_of(alloc: Global, flat: &Flat, theorem: &Theorem) -> Result<Result<Form, Reason>, NoMemory>
-    ensures { IfOk result (λ goal. IfErr goal (λ reason. has_reason_row reason ≡ true)) }
+    ensures goal { IfOk result (λ goal. GoalIs goal (goal_of flat.now.sig (plain_theorem theorem.now))) }
+    ensures rows { IfOk result (λ goal. IfErr goal (λ reason. has_reason_row reason ≡ true)) }
 {
-    let context = Context {
+    let context = nothing_around(alloc);
+    match elaborate(alloc, &flat.sig, &context, &theorem.form) {
+        Ok(goal) => Ok(small_goal(alloc, goal)),
+        Err(error) => Ok(Err(typing_reason(alloc, &error)?)),
+    }
+}
+
+/// A context without variables and procedures.
+fn nothing_around(alloc: Global) -> Context
+    ensures { result ≡ nothing_around }
+{
+    Context {
         free: List::new(alloc),
         bound: List::new(alloc),
         assumed: List::new(alloc),
-    };
-    match elaborate(alloc, &flat.sig, &context, &theorem.form) {
-        Ok(goal) if goal.nodes() <= SEQUENT_NODES && goal.depth() <= SEQUENT_DEPTH => Ok(Ok(goal)),
-        Ok(_) => Ok(Err(bare(alloc, reason::LARGE))),
-        Err(error) => Ok(Err(typing_reason(alloc, &error)?)),
+    }
+}
+
+/// The formula, where it keeps the limits of a sequent.
+fn small_goal(alloc: Global, goal: Form) -> Result<Form, Reason>
+    ensures goal { GoalIs result (small_goal (Ok (plain_form goal))) }
+    ensures rows { IfErr result (λ reason. has_reason_row reason ≡ true) }
+{
+    if goal.nodes() <= SEQUENT_NODES && goal.depth() <= SEQUENT_DEPTH {
+        Ok(goal)
+    } else {
+        Err(bare(alloc, reason::LARGE))
     }
 }
 
@@ -89,21 +124,33 @@ fn replayed<L: Ledger>(
     name: &Name,
     steps: &mut Steps<L>,
 ) -> Result<Outcome, NoMemory>
-    ensures { IfOk result (λ outcome. has_fault_rows outcome.broken ≡ true) }
+    ensures outcome { IfOk result (λ outcome. outcome ≡ outcome_of (replay_events (plain_form goal.now) (script_of (map plain_proof proofs.now) name.now))) }
+    ensures rows { IfOk result (λ outcome. has_fault_rows outcome.broken ≡ true) }
 {
     let env = Env { flat, before: 0 };
+    match proof_named(proofs, name) {
+        Some(proof) => replay(alloc, &env, goal, &proof.script, steps),
+        None => replay(alloc, &env, goal, &Script::Hole, steps),
+    }
+}
+
+/// The first proof of that name.
+fn proof_named<'a>(proofs: &'a [Proof], name: &Name) -> Option<&'a Proof>
+    ensures { option_map (λ proof. plain_proof proof.now) result ≡ find (λ (proof : P.Proof). bytes_eq proof.name name.now) (map plain_proof proofs.now) }
+{
     for proof in proofs {
         if proof.name.bytes() == name.bytes() {
-            return replay(alloc, &env, goal, &proof.script, steps);
+            return Some(proof);
         }
     }
-    replay(alloc, &env, goal, &Script::Hole, steps)
+    None
 }
 
 /// The state that the replay of a proof shows.
 fn state_of(alloc: Global, outcome: &Outcome) -> Result<State, NoMemory>
     requires { has_fault_rows outcome.now.broken ≡ true }
-    ensures { IfOk result (λ state. has_state_rows state ≡ true) }
+    ensures state { IfOk result (λ state. state ≡ shown outcome.now.broken outcome.now.goals) }
+    ensures rows { IfOk result (λ state. has_state_rows state ≡ true) }
 {
     match &outcome.broken {
         Some(fault) => Ok(State::Broken(

@@ -1,16 +1,16 @@
 -- What the function reads, the grammar reads.
-use Rattle.std.proofs.Common.{ℕ, zero, suc, ◌+◌, ◌≡◌, ◌≤◌, ◌<◌, List, [], ◌∷◌, length, refl, ap, ◌∙◌, sym, arith, max, subst, inl, inr}
-use Rattle.std.specs.Prelude.{Option, Some, None, ◌⊎◌, nat_le}
+use Rattle.std.proofs.Common.{ℕ, zero, suc, ◌≡◌, ◌≤◌, ◌<◌, List, ◌∷◌, length, arith, subst, inl, inr}
+use Rattle.std.specs.Prelude.{Some, nat_le}
 use Rattle.kv_lex.specs.declared.token.TokenKind.{TokenKind}
-use Rattle.kv_lex.specs.declared.token.TokenKind.TheVariants.{Word, Ident, Number, Mark}
+use Rattle.kv_lex.specs.declared.token.TokenKind.TheVariants.{Ident, Mark}
 use Rattle.kv_lex.specs.declared.mark.TheConstants.{OPEN, CLOSE, ARROW}
-use Rattle.kv_syn.specs.RawTrees.{RawForm, RawTerms}
+use Rattle.kv_syn.specs.RawTrees.{RawForm}
 use Rattle.kv_syn.specs.RawCount.{raw_form_depth}
 use Rattle.kv_pexpr.specs.declared.grammar.Level.{Level}
 use Rattle.kv_pexpr.specs.declared.grammar.Level.TheVariants as level
 use Rattle.kv_pexpr.specs.Grammar as g
 use Rattle.kv_pexpr.specs.Grammar.{IsImp, IsUna}
-use Rattle.kv_pexpr.specs.Parse.{given, or_stay, behind, eat_mark, eat_name, atom, named, read, rule, una_rule, imp_rule, Read, Parser, right, bracketed, closed}
+use Rattle.kv_pexpr.specs.Parse.{behind, eat_mark, eat_name, atom, named, read, rule, una_rule, imp_rule, Parser, right, bracketed, closed}
 use Rattle.kv_pexpr.proofs.Steps.{some_is, given_some, stay_or, behind_some, mark_some, name_some}
 
 abbrev pub Is : Level → ℕ → List TokenKind → RawForm → List TokenKind → Type 0

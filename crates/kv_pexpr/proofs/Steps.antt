@@ -1,6 +1,6 @@
 -- What an answer of the reading function says of the steps before it.
-use Rattle.std.proofs.Common.{ℕ, ◌≡◌, ◌≤◌, List, [], ◌∷◌, refl, subst, arith, inl, inr}
-use Rattle.std.specs.Prelude.{Bool, true, false, cond, ◌==◌, Option, Some, None, ◌⊎◌, nat_le}
+use Rattle.std.proofs.Common.{ℕ, ◌≡◌, ◌≤◌, List, [], ◌∷◌, refl, subst, inl, inr}
+use Rattle.std.specs.Prelude.{cond, ◌==◌, Option, Some, None, ◌⊎◌, nat_le}
 use Rattle.std.proofs.lemmas.Bool.Decides.{leb_tells, eqb_tells}
 use Rattle.kv_lex.specs.declared.token.TokenKind.{TokenKind}
 use Rattle.kv_lex.specs.declared.token.TokenKind.TheVariants.{Word, Ident, Number, Mark}

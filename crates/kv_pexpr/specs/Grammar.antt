@@ -1,6 +1,6 @@
 -- The grammar of formulas. Each relation reads: the tokens ts begin with a spelling of the tree, in which at most d
 -- pairs of brackets stand open around one place, and us are the tokens behind it.
-use Rattle.std.specs.Prelude.{ℕ, suc, List, ◌∷◌, ◌≤◌}
+use Rattle.std.specs.Prelude.{ℕ, suc, List, ◌∷◌, ◌≤◌, ◌≢◌}
 use Rattle.kv_lex.specs.declared.token.TokenKind.{TokenKind}
 use Rattle.kv_lex.specs.declared.token.TokenKind.TheVariants.{Ident, Mark}
 use Rattle.kv_lex.specs.declared.mark.TheConstants.{OPEN, CLOSE, ARROW}
@@ -31,3 +31,7 @@ open_brackets = 150
 -- what reads as a formula
 abbrev pub ReadsForm : List TokenKind → RawForm → List TokenKind → Type 0
 ReadsForm ts p us = IsImp open_brackets ts p us × (raw_form_depth p ≤ tree_height)
+
+-- no arrow comes first
+abbrev pub NoArrow : List TokenKind → Type 0
+NoArrow ts = (us : List TokenKind) → ts ≢ Mark ARROW ∷ us

@@ -9,6 +9,7 @@ ghost use Rattle.kv_pexpr.specs.Grammar.{ReadsForm};
 ghost use Rattle.kv_pexpr.specs.Gives.{kinds, seen, Gives, IsHigh};
 ghost use Rattle.kv_pexpr.specs.Nests.{Nests};
 ghost use Rattle.kv_pexpr.specs.Parse as spec;
+ghost use Rattle.kv_pexpr.specs.Readings.{OneTree, OneReading, IsLongest, IsOnly};
 
 use crate::errors::ReadError;
 use crate::found::Found;
@@ -193,11 +194,13 @@ fn read(
 ///
 /// A formula is a tree of at most 150 levels, and no place in it stands inside more than 150 pairs of brackets. An
 /// arrow that no formula follows within these limits is left unread. `Syntax` comes exactly where no formula
-/// begins there.
+/// begins there. A formula behind which no arrow stands, as one that takes all the tokens, is the one that is found.
 pub fn formula(alloc: Global, tokens: &[Token], at: usize) -> Result<(RawForm, usize), ReadError>
     requires { at ≤ length tokens.now }
     ensures found { IfOk result (λ found. ReadsForm (kinds (drop at tokens.now)) (raw_form found.0) (kinds (drop found.1 tokens.now))) }
     ensures within { IfOk result (λ found. (at < found.1) × (found.1 ≤ length tokens.now)) }
+    ensures longest { IsLongest tokens.now at result }
+    ensures only { IsOnly tokens.now at result }
 {
     let found = longest(alloc, &tokens[at..])?;
     let rest = found.rest.len();
@@ -211,3 +214,10 @@ fn longest(alloc: Global, tokens: &[Token]) -> Result<Found<'_, RawForm>, ReadEr
 {
     read(alloc, tokens, FUEL, Level::Imp, OPEN_BRACKETS, TREE_HEIGHT)
 }
+
+/// One text is one formula: two readings of the same tokens are one tree where they leave the same tokens behind them,
+/// and are one altogether where no arrow stands behind either.
+pub fn one_reading()
+    ensures tree { OneTree }
+    ensures whole { OneReading }
+{}

@@ -4,7 +4,9 @@
 mod errors;
 mod found;
 mod grammar;
+#[cfg(test)]
+mod tests;
 mod tokens;
 
 pub use errors::ReadError;
-pub use grammar::formula;
+pub use grammar::{formula, one_reading};

@@ -5,3 +5,6 @@ mod pieces;
 mod states;
 
 pub use states::{reason_text, state_text};
+
+#[cfg(test)]
+mod tests;

@@ -1,7 +1,9 @@
 // The parts that texts are put together from. Each adds its bytes at the end.
 
-ghost use Rattle.std.specs.Prelude.{◌≡◌, ◌<◌, true};
+ghost use Rattle.std.specs.Prelude.{◌≡◌, ◌<◌, ◌++◌, true, decimal, OnOk};
+ghost use Rattle.kv_print.specs.Texts.{word, path_text, reason_text, need_text};
 ghost use Rattle.kv_syn.specs.Rows.{has_reason_row};
+ghost use Rattle.kv_table.specs.Tables.{state_rows};
 
 use kv_syn::{Bytes, Need, NoMemory, Path, Reason};
 use kv_table::{reasons, states};
@@ -10,6 +12,7 @@ use std::alloc::Global;
 /// The word of a state, by its row.
 pub fn push_word(text: &mut Bytes, row: u32) -> Result<(), NoMemory>
     requires { row < 11 }
+    ensures { OnOk result (text.new ≡ text.old ++ word state_rows row) }
 {
     text.append(states().name(row as usize).as_bytes())
 }
@@ -17,6 +20,7 @@ pub fn push_word(text: &mut Bytes, row: u32) -> Result<(), NoMemory>
 /// A reason: its word, then its names, each after a space.
 pub fn push_reason(text: &mut Bytes, reason: &Reason) -> Result<(), NoMemory>
     requires { has_reason_row reason.now ≡ true }
+    ensures { OnOk result (text.new ≡ text.old ++ reason_text reason.now) }
 {
     text.append(reasons().name(reason.word as usize).as_bytes())?;
     for name in reason.names.items() {
@@ -27,13 +31,17 @@ pub fn push_reason(text: &mut Bytes, reason: &Reason) -> Result<(), NoMemory>
 }
 
 /// A number in decimal digits.
-pub fn push_number(alloc: Global, text: &mut Bytes, number: u64) -> Result<(), NoMemory> {
+pub fn push_number(alloc: Global, text: &mut Bytes, number: u64) -> Result<(), NoMemory>
+    ensures { OnOk result (text.new ≡ text.old ++ decimal number) }
+{
     let digits = number.to_string(alloc)?;
     text.append(digits.as_bytes())
 }
 
 /// A path: its places with full stops between, or `0` for the root.
-pub fn push_path(alloc: Global, text: &mut Bytes, path: &Path) -> Result<(), NoMemory> {
+pub fn push_path(alloc: Global, text: &mut Bytes, path: &Path) -> Result<(), NoMemory>
+    ensures { OnOk result (text.new ≡ text.old ++ path_text path.now) }
+{
     let Some((first, others)) = path.items().split_first() else {
         return text.append(b"0");
     };
@@ -46,7 +54,9 @@ pub fn push_path(alloc: Global, text: &mut Bytes, path: &Path) -> Result<(), NoM
 }
 
 /// A theorem or obligation by its unit and name.
-pub fn push_need(text: &mut Bytes, need: &Need) -> Result<(), NoMemory> {
+pub fn push_need(text: &mut Bytes, need: &Need) -> Result<(), NoMemory>
+    ensures { OnOk result (text.new ≡ text.old ++ need_text need.now) }
+{
     text.append(need.unit.bytes())?;
     text.append(b".")?;
     text.append(need.name.bytes())

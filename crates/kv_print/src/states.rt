@@ -1,6 +1,7 @@
 // States and reasons.
 
-ghost use Rattle.std.specs.Prelude.{◌≡◌, true};
+ghost use Rattle.std.specs.Prelude.{◌≡◌, ◌++◌, true, IfOk, OnOk};
+ghost use Rattle.kv_print.specs.Texts as spec;
 ghost use Rattle.kv_syn.specs.Rows.{has_reason_row, has_state_rows};
 
 use crate::pieces::{push_need, push_number, push_path, push_reason, push_word};
@@ -11,6 +12,7 @@ use std::alloc::Global;
 /// The text of a reason: its word, then its names, each after a space.
 pub fn reason_text(alloc: Global, reason: &Reason) -> Result<Bytes, NoMemory>
     requires { has_reason_row reason.now ≡ true }
+    ensures { IfOk result (λ text. text ≡ spec.reason_text reason.now) }
 {
     let mut text = Bytes::new(alloc);
     push_reason(&mut text, reason)?;
@@ -20,14 +22,17 @@ pub fn reason_text(alloc: Global, reason: &Reason) -> Result<Bytes, NoMemory>
 /// The text of a state: its word, then what it speaks of.
 pub fn state_text(alloc: Global, state: &State) -> Result<Bytes, NoMemory>
     requires { has_state_rows state.now ≡ true }
+    ensures { IfOk result (λ text. text ≡ spec.state_text state.now) }
 {
     let mut text = Bytes::new(alloc);
     push_state(alloc, &mut text, state)?;
     Ok(text)
 }
 
+#[tactic(auto, unfolding(kv_table::specs::Tables::state_rows))]
 fn push_state(alloc: Global, text: &mut Bytes, state: &State) -> Result<(), NoMemory>
     requires { has_state_rows state.now ≡ true }
+    ensures { OnOk result (text.new ≡ text.old ++ spec.state_text state.now) }
 {
     match state {
         State::Ill(reason) => {

@@ -7,3 +7,6 @@ mod rules;
 
 pub use limits::{SEQUENT_DEPTH, SEQUENT_NODES};
 pub use rules::apply;
+
+#[cfg(test)]
+mod tests;

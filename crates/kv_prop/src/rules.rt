@@ -1,7 +1,11 @@
 // The rules.
 
+ghost use Rattle.std.specs.Prelude.{map};
+ghost use Rattle.kv_prop.specs.Premises.{premises, closing, implied, and_then, form_at, Gives};
+ghost use Rattle.kv_syn.specs.Bridge.{plain_sequent};
+
 use crate::limits::fitting;
-use crate::places::{at, copies_and, copies_with};
+use crate::places::{are_same, at, copies_and, copies_with};
 use kv_sig::{Env, StepError};
 use kv_syn::{Form, List, Plain, Sequent, TypedStep};
 use kv_table::rule;
@@ -17,7 +21,9 @@ pub fn apply(
     _env: &Env,
     sequent: &Sequent,
     step: &TypedStep,
-) -> Result<List<Sequent>, StepError> {
+) -> Result<List<Sequent>, StepError>
+    ensures { Gives (map plain_sequent) result (premises (plain_sequent sequent.now) step.now) }
+{
     match (step.rule, step.numbers.items()) {
         (rule::CLOSE, [left, right]) => close(alloc, sequent, *left, *right),
         (rule::IMP_R, [place]) => imply(alloc, sequent, *place),
@@ -31,10 +37,12 @@ fn close(
     sequent: &Sequent,
     left: u32,
     right: u32,
-) -> Result<List<Sequent>, StepError> {
+) -> Result<List<Sequent>, StepError>
+    ensures { Gives (map plain_sequent) result (closing (plain_sequent sequent.now) left right) }
+{
     let assumed = at(sequent.left.items(), left)?;
     let wanted = at(sequent.right.items(), right)?;
-    if assumed.same(wanted) {
+    if are_same(assumed, wanted) {
         Ok(List::new(alloc))
     } else {
         Err(StepError::Shape)
@@ -42,11 +50,13 @@ fn close(
 }
 
 /// `impR i`: of an implication on the right, the premise is assumed and the conclusion takes its place.
-fn imply(alloc: Global, sequent: &Sequent, place: u32) -> Result<List<Sequent>, StepError> {
+fn imply(alloc: Global, sequent: &Sequent, place: u32) -> Result<List<Sequent>, StepError>
+    ensures { Gives (map plain_sequent) result (and_then (form_at (plain_sequent sequent.now).right place) (implied (plain_sequent sequent.now) place)) }
+{
     let Form::Imp(premise, conclusion) = at(sequent.right.items(), place)? else {
         return Err(StepError::Shape);
     };
-    let left = copies_and(alloc, sequent.left.items(), premise.get().copy(alloc)?)?;
+    let left = copies_and(alloc, &sequent.left, premise.get().copy(alloc)?)?;
     let right = copies_with(alloc, sequent.right.items(), place, conclusion.get())?;
     let mut premises = List::new(alloc);
     premises.push(fitting(Sequent { left, right })?)?;

@@ -1,0 +1,11 @@
+pub mod Turns
+pub mod Steps
+pub mod Sound
+pub mod Exact
+pub mod Maps
+pub mod Rules
+pub mod Wholes
+pub mod Firsts
+pub mod Settled
+pub mod One
+pub mod Texts

@@ -47,6 +47,11 @@ impl From<NoMemory> for TextError {
 }
 
 impl From<ReadError> for TextError {
+    ghost use Rattle.std.specs.Prelude.{◌≡◌};
+    ghost use Rattle.kv_punit.specs.Errors.{of_reader};
+
+    ghost from_gives = { λ e error. error ≡ of_reader e };
+
     fn from(error: ReadError) -> TextError {
         match error {
             ReadError::Syntax => TextError::Syntax,
@@ -56,6 +61,11 @@ impl From<ReadError> for TextError {
 }
 
 impl From<LexError> for TextError {
+    ghost use Rattle.std.specs.Prelude.{◌≡◌};
+    ghost use Rattle.kv_punit.specs.Errors.{of_lexer};
+
+    ghost from_gives = { λ e error. error ≡ of_lexer e };
+
     fn from(error: LexError) -> TextError {
         match error {
             LexError::Token { place } => TextError::Token { place },

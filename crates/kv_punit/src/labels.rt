@@ -1,34 +1,49 @@
 // Labels.
 
-use crate::tokens::{mark, name};
+ghost use Rattle.std.specs.Prelude.{◌≡◌};
+ghost use Rattle.std.specs.Option.{option_map};
+ghost use Rattle.kv_pexpr.specs.Gives.{kinds, Gives};
+ghost use Rattle.kv_punit.specs.Parse as spec;
+
+use crate::tokens::{eat_mark, name};
 use kv_lex::{Token, mark as row};
 use kv_pexpr::ReadError;
 use kv_syn::{Bytes, Label};
 use std::alloc::Global;
 
 /// A label: names with `.` or `:` between them, as many as there are.
-pub fn label(alloc: Global, tokens: &[Token]) -> Result<(Label, &[Token]), ReadError> {
+pub fn label(alloc: Global, tokens: &[Token]) -> Result<(Label, &[Token]), ReadError>
+    ensures { Gives (λ found. (found.0, kinds found.1.now)) result (spec.label (kinds tokens.now)) }
+{
+    let (text, rest) = label_text(alloc, tokens)?;
+    Ok((Label::from_bytes(alloc, text.bytes())?, rest))
+}
+
+/// The bytes of a label.
+fn label_text(alloc: Global, tokens: &[Token]) -> Result<(Bytes, &[Token]), ReadError>
+    ensures { Gives (λ found. (found.0, kinds found.1.now)) result (spec.label (kinds tokens.now)) }
+{
     let (first, mut rest) = name(alloc, tokens)?;
     let mut text = Bytes::from_bytes(alloc, first.bytes())?;
-    for _ in 0..tokens.len() {
+    for _turn in 0..tokens.len() {
         let Some((between, after)) = separator(rest) else {
-            return Ok((Label::from_bytes(alloc, text.bytes())?, rest));
+            return Ok((text, rest));
         };
         let (next, behind) = name(alloc, after)?;
         text.append(between)?;
         text.append(next.bytes())?;
         rest = behind;
     }
-    Ok((Label::from_bytes(alloc, text.bytes())?, rest))
+    Ok((text, rest))
 }
 
 /// The mark between two names of a label, and the tokens behind it.
-fn separator(tokens: &[Token]) -> Option<(&'static [u8], &[Token])> {
-    if let Ok(rest) = mark(tokens, row::DOT) {
+fn separator(tokens: &[Token]) -> Option<(&'static [u8], &[Token])>
+    ensures { option_map (λ found. (found.0.now, kinds found.1.now)) result ≡ spec.separator (kinds tokens.now) }
+{
+    if let Some(rest) = eat_mark(tokens, row::DOT) {
         return Some((b".", rest));
     }
-    match mark(tokens, row::COLON) {
-        Ok(rest) => Some((b":", rest)),
-        Err(_) => None,
-    }
+    let rest = eat_mark(tokens, row::COLON)?;
+    Some((b":", rest))
 }

@@ -11,4 +11,7 @@ mod units;
 
 pub use commands::Command;
 pub use errors::{TextError, Which};
-pub use projects::project;
+pub use projects::{one_project, project};
+
+#[cfg(test)]
+mod tests;

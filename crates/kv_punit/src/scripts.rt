@@ -1,82 +1,129 @@
-// Proof scripts.
+// Proof scripts. The rules take the reader of a script as a parameter, so that each is proved by itself.
 
-ghost use Rattle.std.specs.Prelude.{◌<◌};
+ghost use Rattle.std.specs.Prelude.{◌≡◌, ◌<◌, [], map, length};
+ghost use Rattle.kv_syn.specs.ScriptBridge.{plain_script, plain_step};
+ghost use Rattle.kv_table.specs.Names.{row_of};
+ghost use Rattle.kv_table.specs.Tables.{rule_rows};
+ghost use Rattle.kv_pexpr.specs.Gives.{kinds, Gives};
+ghost use Rattle.kv_punit.specs.Gives.{seen};
+ghost use Rattle.kv_punit.specs.Grammar as grammar;
+ghost use Rattle.kv_punit.specs.Nests.{Nests};
+ghost use Rattle.kv_punit.specs.Parse as spec;
 
-use crate::tokens::{mark, number, word};
+use crate::tokens::{eat_mark, eat_word, mark, number};
 use kv_lex::{Token, TokenKind, mark as row};
 use kv_pexpr::ReadError;
-use kv_syn::{List, Script, Step, StepText};
+use kv_syn::{List, Name, Script, Step, StepText};
 use kv_table::{keyword, rule, rules};
 use std::alloc::Global;
 
 /// How many steps may stand on one path of a script.
 const PATH_STEPS: u32 = 500;
 
+/// The rules over a reader of scripts.
+#[derive(Clone, Copy)]
+pub struct Children<F> {
+    alloc: Global,
+    /// How many steps may stand on a path of a child.
+    most: u32,
+    read: F,
+}
+
+impl<F: Fn(Global, &[Token], u32) -> Result<(Script, &[Token]), ReadError>> Children<F> {
+    fn child<'a>(&self, tokens: &'a [Token]) -> Result<(Script, &'a [Token]), ReadError>
+        requires nests { Nests self.now.most (F.pre self.now.read) (F.post self.now.read) }
+        ensures { Gives (seen plain_script) result (spec.script self.now.most (kinds tokens.now)) }
+    {
+        (self.read)(self.alloc, tokens, self.most)
+    }
+
+    /// Scripts with bars between them, up to the closing brace.
+    fn block<'a>(&self, tokens: &'a [Token]) -> Result<(List<Script>, &'a [Token]), ReadError>
+        requires nests { Nests self.now.most (F.pre self.now.read) (F.post self.now.read) }
+        ensures { Gives (seen (map plain_script)) result (spec.braces (spec.script self.now.most) (kinds tokens.now)) }
+    {
+        let mut children = List::new(self.alloc);
+        let mut rest = tokens;
+        for _turn in 0..tokens.len() {
+            let (child, after) = self.child(rest)?;
+            children.push(child)?;
+            if let Some(behind) = eat_mark(after, row::CLOSE_BRACE) {
+                return Ok((children, behind));
+            }
+            rest = mark(after, row::BAR)?;
+        }
+        Err(ReadError::Syntax)
+    }
+
+    /// One script alone.
+    fn chained<'a>(&self, tokens: &'a [Token]) -> Result<(List<Script>, &'a [Token]), ReadError>
+        requires nests { Nests self.now.most (F.pre self.now.read) (F.post self.now.read) }
+        ensures { Gives (seen (map plain_script)) result (spec.chained (spec.script self.now.most) (kinds tokens.now)) }
+    {
+        let (child, rest) = self.child(tokens)?;
+        let mut children = List::new(self.alloc);
+        children.push(child)?;
+        Ok((children, rest))
+    }
+
+    /// What stands behind a step: nothing, one script behind `;`, or several in braces.
+    fn children<'a>(&self, tokens: &'a [Token]) -> Result<(List<Script>, &'a [Token]), ReadError>
+        requires nests { Nests self.now.most (F.pre self.now.read) (F.post self.now.read) }
+        ensures { Gives (seen (map plain_script)) result (spec.children (spec.script self.now.most) (kinds tokens.now)) }
+    {
+        if let Some(rest) = eat_mark(tokens, row::SEMICOLON) {
+            return self.chained(rest);
+        }
+        match eat_mark(tokens, row::OPEN_BRACE) {
+            Some(rest) => self.block(rest),
+            None => Ok((List::new(self.alloc), tokens)),
+        }
+    }
+
+    /// The script whose first step that is.
+    fn node<'a>(&self, step: Step, tokens: &'a [Token]) -> Result<(Script, &'a [Token]), ReadError>
+        requires nests { Nests self.now.most (F.pre self.now.read) (F.post self.now.read) }
+        ensures { Gives (seen plain_script) result (spec.node (spec.script self.now.most) (plain_step step, kinds tokens.now)) }
+    {
+        let (children, rest) = self.children(tokens)?;
+        Ok((Script::Node(step, children), rest))
+    }
+}
+
 /// A script: `open`, or a step, behind which `;` and a script or several scripts in braces may follow. At most 500
 /// steps stand on a path.
-pub fn script(alloc: Global, tokens: &[Token]) -> Result<(Script, &[Token]), ReadError> {
+pub fn script(alloc: Global, tokens: &[Token]) -> Result<(Script, &[Token]), ReadError>
+    ensures { Gives (seen plain_script) result (spec.script PATH_STEPS (kinds tokens.now)) }
+{
     script_of(alloc, tokens, PATH_STEPS)
 }
 
-#[cycle(script)]
-fn script_of(alloc: Global, tokens: &[Token], most: u32) -> Result<(Script, &[Token]), ReadError> {
-    if let Ok(rest) = word(tokens, keyword::OPEN) {
+/// A script with at most so many steps on a path.
+fn script_of(alloc: Global, tokens: &[Token], most: u32) -> Result<(Script, &[Token]), ReadError>
+    ensures { Gives (seen plain_script) result (spec.script most (kinds tokens.now)) }
+{
+    if let Some(rest) = eat_word(tokens, keyword::OPEN) {
         return Ok((Script::Hole, rest));
     }
     if most == 0 {
         return Err(ReadError::Syntax);
     }
     let (step, rest) = step(alloc, tokens)?;
-    let (children, rest) = children(alloc, rest, most - 1)?;
-    Ok((Script::Node(step, children), rest))
-}
-
-/// What stands behind a step: nothing, one script behind `;`, or several in braces.
-#[cycle(script)]
-fn children(
-    alloc: Global,
-    tokens: &[Token],
-    most: u32,
-) -> Result<(List<Script>, &[Token]), ReadError> {
-    if let Ok(rest) = mark(tokens, row::SEMICOLON) {
-        let (child, rest) = script_of(alloc, rest, most)?;
-        let mut children = List::new(alloc);
-        children.push(child)?;
-        return Ok((children, rest));
-    }
-    match mark(tokens, row::OPEN_BRACE) {
-        Ok(rest) => block(alloc, rest, most),
-        Err(_) => Ok((List::new(alloc), tokens)),
-    }
-}
-
-/// Scripts with bars between them, up to the closing brace.
-#[cycle(script)]
-fn block(
-    alloc: Global,
-    tokens: &[Token],
-    most: u32,
-) -> Result<(List<Script>, &[Token]), ReadError> {
-    let mut children = List::new(alloc);
-    let mut rest = tokens;
-    for _ in 0..tokens.len() {
-        let (child, after) = script_of(alloc, rest, most)?;
-        children.push(child)?;
-        if let Ok(behind) = mark(after, row::CLOSE_BRACE) {
-            return Ok((children, behind));
-        }
-        rest = mark(after, row::BAR)?;
-    }
-    Err(ReadError::Syntax)
+    let children = Children {
+        alloc,
+        most: most - 1,
+        read: script_of,
+    };
+    children.node(step, rest)
 }
 
 /// A step: the word of a rule and its numbers.
-fn step(alloc: Global, tokens: &[Token]) -> Result<(Step, &[Token]), ReadError> {
-    let Some((first, rest)) = tokens.split_first() else {
-        return Err(ReadError::Syntax);
-    };
-    match rule_of(first) {
-        Some(rule::CLOSE) => {
+pub fn step(alloc: Global, tokens: &[Token]) -> Result<(Step, &[Token]), ReadError>
+    ensures { Gives (seen plain_step) result (spec.step (kinds tokens.now)) }
+{
+    let (row, rest) = rule_row(tokens)?;
+    match row {
+        rule::CLOSE => {
             let (left, rest) = number(rest)?;
             let (right, rest) = number(rest)?;
             let mut numbers = List::new(alloc);
@@ -84,7 +131,7 @@ fn step(alloc: Global, tokens: &[Token]) -> Result<(Step, &[Token]), ReadError> 
             numbers.push(right)?;
             Ok((numbered(rule::CLOSE, numbers), rest))
         }
-        Some(rule::IMP_R) => {
+        rule::IMP_R => {
             let (place, rest) = number(rest)?;
             let mut numbers = List::new(alloc);
             numbers.push(place)?;
@@ -97,6 +144,7 @@ fn step(alloc: Global, tokens: &[Token]) -> Result<(Step, &[Token]), ReadError> 
 /// The step of a rule that has numbers alone.
 fn numbered(rule: u32, numbers: List<u32>) -> Step
     requires { rule < 38 }
+    ensures { plain_step result ≡ grammar.numbered rule numbers }
 {
     Step {
         rule,
@@ -106,16 +154,31 @@ fn numbered(rule: u32, numbers: List<u32>) -> Step
     }
 }
 
+/// The row of the rule whose name comes first, and the tokens behind it.
+fn rule_row(tokens: &[Token]) -> Result<(u32, &[Token]), ReadError>
+    ensures { Gives (λ found. (found.0, kinds found.1.now)) result (spec.eat_rule (kinds tokens.now)) }
+{
+    let Some((first, rest)) = tokens.split_first() else {
+        return Err(ReadError::Syntax);
+    };
+    let TokenKind::Ident(name) = &first.kind else {
+        return Err(ReadError::Syntax);
+    };
+    match rule_of(name) {
+        Some(row) => Ok((row, rest)),
+        None => Err(ReadError::Syntax),
+    }
+}
+
 /// The row of the rule that a name spells.
-fn rule_of(token: &Token) -> Option<u32> {
-    let TokenKind::Ident(name) = &token.kind else {
-        return None;
-    };
-    let Ok(text) = str::from_utf8(name.bytes()) else {
-        return None;
-    };
-    match rules().find(text) {
-        Some(row) => Some(row as u32),
-        None => None,
+fn rule_of(name: &Name) -> Option<u32>
+    ensures { result ≡ row_of rule_rows name.now }
+{
+    match str::from_utf8(name.bytes()) {
+        Ok(text) => {
+            let row = rules().find(text)?;
+            Some(row as u32)
+        }
+        Err(_) => None,
     }
 }

@@ -1,21 +1,34 @@
 // Units, theorems and proofs.
 
-ghost use Rattle.std.specs.Prelude.{◌≡◌, true, IfOk};
+ghost use Rattle.std.specs.Prelude.{◌≡◌, true, List, [], ◌∷◌, IfOk, map, length};
 ghost use Rattle.std.specs.List.{list_all};
+ghost use Rattle.kv_lex.specs.declared.mark.TheConstants.{SEMICOLON};
+ghost use Rattle.kv_lex.specs.declared.token.TokenKind.{TokenKind as KindTree};
+ghost use Rattle.kv_lex.specs.declared.token.TokenKind.TheVariants.{Mark as MarkKind};
+ghost use Rattle.kv_syn.specs.ProjectBridge.{plain_item, plain_proof, plain_theorem, plain_unit};
+ghost use Rattle.kv_syn.specs.Projects as P;
+ghost use Rattle.kv_syn.specs.RawBridge.{raw_form};
+ghost use Rattle.kv_syn.specs.RawTrees.{RawForm as RawTree};
 ghost use Rattle.kv_syn.specs.Readable.{is_readable_item, is_readable_unit};
+ghost use Rattle.kv_pexpr.specs.Gives.{kinds, Gives};
+ghost use Rattle.kv_pexpr.specs.Grammar.{ReadsForm};
+ghost use Rattle.kv_punit.specs.Gives.{seen, IsThat};
+ghost use Rattle.kv_punit.specs.Grammar.{IsTheorem};
+ghost use Rattle.kv_punit.specs.Parse as spec;
 
 use crate::labels::label;
 use crate::scripts::script;
-use crate::tokens::{mark, name, word};
+use crate::tokens::{eat_word, mark, name, word};
 use kv_lex::{Token, mark as row};
 use kv_pexpr::{ReadError, formula};
-use kv_syn::{Item, Kind, List, Proof, Theorem, Unit};
+use kv_syn::{Item, Kind, List, Name, Proof, RawForm, Theorem, Unit};
 use kv_table::keyword;
 use std::alloc::Global;
 
 /// A unit: `unit`, its name, `basic`, its items and `end`. It has no theorems and proofs yet.
 pub fn unit(alloc: Global, tokens: &[Token]) -> Result<(Unit, &[Token]), ReadError>
-    ensures { IfOk result (λ found. is_readable_unit found.0 ≡ true) }
+    ensures reads { Gives (seen plain_unit) result (spec.unit (kinds tokens.now)) }
+    ensures readable { IfOk result (λ found. is_readable_unit found.0 ≡ true) }
 {
     let rest = word(tokens, keyword::UNIT)?;
     let (name, rest) = name(alloc, rest)?;
@@ -33,12 +46,13 @@ pub fn unit(alloc: Global, tokens: &[Token]) -> Result<(Unit, &[Token]), ReadErr
 
 /// Items, as many as there are.
 fn items(alloc: Global, tokens: &[Token]) -> Result<(List<Item>, &[Token]), ReadError>
-    ensures { IfOk result (λ found. list_all is_readable_item found.0 ≡ true) }
+    ensures reads { Gives (seen (map plain_item)) result (spec.items (length (kinds tokens.now)) [] (kinds tokens.now)) }
+    ensures readable { IfOk result (λ found. list_all is_readable_item found.0 ≡ true) }
 {
     let mut items = List::new(alloc);
     let mut rest = tokens;
-    for _ in 0..tokens.len() {
-        let Ok(after) = word(rest, keyword::PRED) else {
+    for _turn in 0..tokens.len() {
+        let Some(after) = eat_word(rest, keyword::PRED) else {
             return Ok((items, rest));
         };
         let (name, after) = name(alloc, after)?;
@@ -52,12 +66,12 @@ fn items(alloc: Global, tokens: &[Token]) -> Result<(List<Item>, &[Token]), Read
 }
 
 /// A theorem without `simp`.
-pub fn theorem(alloc: Global, tokens: &[Token]) -> Result<(Theorem, &[Token]), ReadError> {
-    let rest = word(tokens, keyword::THEOREM)?;
-    let (name, rest) = name(alloc, rest)?;
-    let rest = mark(rest, row::COLON)?;
-    let (form, place) = formula(alloc, rest, 0)?;
-    let rest = mark(&rest[place..], row::SEMICOLON)?;
+pub fn theorem(alloc: Global, tokens: &[Token]) -> Result<(Theorem, &[Token]), ReadError>
+    ensures found { IfOk result (λ found. IsTheorem (kinds tokens.now) (plain_theorem found.0) (kinds found.1.now)) }
+    ensures only { (t : P.Theorem) (us : List KindTree) → IsTheorem (kinds tokens.now) t us → IsThat (seen plain_theorem) result (t, us) }
+{
+    let (name, rest) = heading(alloc, tokens)?;
+    let (form, rest) = statement(alloc, rest)?;
     let theorem = Theorem {
         name,
         simp: false,
@@ -66,8 +80,41 @@ pub fn theorem(alloc: Global, tokens: &[Token]) -> Result<(Theorem, &[Token]), R
     Ok((theorem, rest))
 }
 
+/// What stands before the formula of a theorem: its name.
+fn heading(alloc: Global, tokens: &[Token]) -> Result<(Name, &[Token]), ReadError>
+    ensures { Gives (λ found. (found.0, kinds found.1.now)) result (spec.heading (kinds tokens.now)) }
+{
+    let rest = word(tokens, keyword::THEOREM)?;
+    let (name, rest) = name(alloc, rest)?;
+    Ok((name, mark(rest, row::COLON)?))
+}
+
+/// The formula of a theorem, and the tokens behind the semicolon that ends it.
+fn statement(alloc: Global, tokens: &[Token]) -> Result<(RawForm, &[Token]), ReadError>
+    ensures found { IfOk result (λ found. ReadsForm (kinds tokens.now) (raw_form found.0) (MarkKind SEMICOLON ∷ kinds found.1.now)) }
+    ensures only { (f : RawTree) (us : List KindTree) → ReadsForm (kinds tokens.now) f (MarkKind SEMICOLON ∷ us) → IsThat (seen raw_form) result (f, us) }
+{
+    let (form, place) = formula(alloc, tokens, 0)?;
+    Ok((form, mark(&tokens[place..], row::SEMICOLON)?))
+}
+
+/// The proof that comes first, if there is one.
+pub fn proofs(alloc: Global, tokens: &[Token]) -> Result<(List<Proof>, &[Token]), ReadError>
+    ensures { Gives (seen (map plain_proof)) result (spec.proofs (kinds tokens.now)) }
+{
+    if eat_word(tokens, keyword::PROOF).is_none() {
+        return Ok((List::new(alloc), tokens));
+    }
+    let (proof, rest) = proof(alloc, tokens)?;
+    let mut proofs = List::new(alloc);
+    proofs.push(proof)?;
+    Ok((proofs, rest))
+}
+
 /// A proof.
-pub fn proof(alloc: Global, tokens: &[Token]) -> Result<(Proof, &[Token]), ReadError> {
+fn proof(alloc: Global, tokens: &[Token]) -> Result<(Proof, &[Token]), ReadError>
+    ensures { Gives (seen plain_proof) result (spec.proof (kinds tokens.now)) }
+{
     let rest = word(tokens, keyword::PROOF)?;
     let (name, rest) = label(alloc, rest)?;
     let rest = mark(rest, row::EQUAL)?;

@@ -5,3 +5,6 @@ mod lines;
 mod replies;
 
 pub use replies::reply;
+
+#[cfg(test)]
+mod tests;

@@ -1,8 +1,9 @@
 // Replies.
 
-ghost use Rattle.std.specs.Prelude.{◌≡◌, true, IfOk, OnOk};
+ghost use Rattle.std.specs.Prelude.{◌≡◌, ◌++◌, true, flat_map, IfOk, OnOk};
 ghost use Rattle.std.specs.List.{list_all};
 ghost use Rattle.kv_punit.specs.declared.commands.Command.{Command as Asked};
+ghost use Rattle.kv_query.specs.Replies.{front, past, row_line, status_lines, status_text};
 ghost use Rattle.kv_syn.specs.Rows.{has_row_rows, has_table_rows};
 
 use crate::lines::{push_row, push_unit};
@@ -16,13 +17,15 @@ use std::sync::ledger::Ledger;
 /// only query.
 pub fn reply<L: Ledger>(
     alloc: Global,
-    _project: &Project,
+    project: &Project,
     checked: &Checked,
     command: &Command,
-    _steps: &mut Steps<L>,
+    steps: &mut Steps<L>,
 ) -> Result<Bytes, NoMemory>
     requires query { command.now ≡ Asked.Status }
     requires rows { has_table_rows checked.now.table ≡ true }
+    ensures text { IfOk result (λ text. text ≡ status_text checked.now.table) }
+    ensures steps { steps.new ≡ steps.old }
 {
     let mut text = Bytes::new(alloc);
     match command {
@@ -36,6 +39,7 @@ pub fn reply<L: Ledger>(
 /// Per unit its line, then its rows.
 fn push_status(alloc: Global, text: &mut Bytes, table: &Table) -> Result<(), NoMemory>
     requires { has_table_rows table.now ≡ true }
+    ensures { OnOk result (text.new ≡ text.old ++ status_lines table.now.units table.now.rows) }
 {
     let mut rows = table.rows.items();
     for (name, state) in table.units.items() {
@@ -53,13 +57,12 @@ fn push_rows<'a>(
     rows: &'a [Row],
 ) -> Result<&'a [Row], NoMemory>
     requires { list_all has_row_rows rows.now ≡ true }
-    ensures { IfOk result (λ others. list_all has_row_rows others.now ≡ true) }
+    ensures fit { IfOk result (λ others. list_all has_row_rows others.now ≡ true) }
+    ensures others { IfOk result (λ others. others.now ≡ past unit.now rows.now) }
+    ensures text { OnOk result (text.new ≡ text.old ++ flat_map row_line (front unit.now rows.now)) }
 {
     let mut rest = rows;
-    for _ in 0..rows.len() {
-        let Some((row, others)) = rest.split_first() else {
-            return Ok(rest);
-        };
+    while let Some((row, others)) = rest.split_first() {
         if row.unit.bytes() != unit.bytes() {
             return Ok(rest);
         }

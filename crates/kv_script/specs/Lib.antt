@@ -1,0 +1,6 @@
+pub mod Answers
+pub mod Derives
+pub mod Events
+pub mod Once
+pub mod Reasons
+pub mod Tallies

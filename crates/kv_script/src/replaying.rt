@@ -1,16 +1,17 @@
 // Replay.
 
-ghost use Rattle.std.specs.Prelude.{◌≡◌, true, IfOk, OnOk};
+ghost use Rattle.std.specs.Prelude.{◌≡◌, ◌+◌, ◌≤◌, true, map, IfOk, OnOk};
+ghost use Rattle.kv_script.specs.Derives.{Derives};
+ghost use Rattle.kv_script.specs.Events.{outcome_of, events, events_below, replay_events, visits};
+ghost use Rattle.kv_script.specs.Tallies.{Told};
+ghost use Rattle.kv_syn.specs.Bridge.{plain_form, plain_sequent};
 ghost use Rattle.kv_syn.specs.Rows.{has_fault_rows};
+ghost use Rattle.kv_syn.specs.ScriptBridge.{plain_script, plain_scripts};
 
-use crate::tally::{Tally, bare, reason_of};
-use kv_prop::apply;
-use kv_sig::{Env, StepError};
-use kv_syn::{
-    Form, List, NoMemory, Outcome, Path, Plain, Script, Sequent, Step, StepText, Steps, TypedStep,
-    TypedText,
-};
-use kv_table::reason;
+use crate::answers::answer;
+use crate::tally::Tally;
+use kv_sig::Env;
+use kv_syn::{Form, List, NoMemory, Outcome, Path, Plain, Script, Sequent, Steps};
 use std::alloc::Global;
 use std::sync::ledger::Ledger;
 
@@ -26,7 +27,11 @@ pub fn replay<L: Ledger>(
     script: &Script,
     steps: &mut Steps<L>,
 ) -> Result<Outcome, NoMemory>
-    ensures { IfOk result (λ outcome. has_fault_rows outcome.broken ≡ true) }
+    ensures rows { IfOk result (λ outcome. has_fault_rows outcome.broken ≡ true) }
+    ensures outcome { IfOk result (λ outcome. outcome ≡ outcome_of (replay_events (plain_form goal.now) (plain_script script.now))) }
+    ensures derivable { IfOk result (λ outcome. Derives env.now.flat.now (plain_form goal.now) outcome) }
+    ensures steps { OnOk result (steps.new ≡ steps.old + visits (replay_events (plain_form goal.now) (plain_script script.now))) }
+    ensures at_most { steps.new ≤ steps.old + visits (replay_events (plain_form goal.now) (plain_script script.now)) }
 {
     let mut right = List::new(alloc);
     right.push(goal.copy(alloc)?)?;
@@ -55,8 +60,13 @@ fn replay_at<L: Ledger>(
     steps: &mut Steps<L>,
 ) -> Result<(), NoMemory>
     requires { has_fault_rows tally.old.broken ≡ true }
-    ensures { OnOk result (has_fault_rows tally.new.broken ≡ true) }
+    ensures rows { OnOk result (has_fault_rows tally.new.broken ≡ true) }
+    ensures path { OnOk result (path.new ≡ path.old) }
+    ensures told { OnOk result (Told tally.old tally.new (events (plain_sequent sequent.now) path.old (plain_script script.now))) }
+    ensures steps { OnOk result (steps.new ≡ steps.old + visits (events (plain_sequent sequent.now) path.old (plain_script script.now))) }
+    ensures at_most { steps.new ≤ steps.old + visits (events (plain_sequent sequent.now) path.old (plain_script script.now)) }
 {
+    let _goals = tally.goals;
     match script {
         Script::Hole => {
             tally.goal();
@@ -64,11 +74,8 @@ fn replay_at<L: Ledger>(
         }
         Script::Node(step, children) => {
             steps.tick();
-            match premises(alloc, env, sequent, step) {
-                Err(error) => tally.refuse(alloc, path, step.rule, reason_of(alloc, error)?),
-                Ok(premises) if premises.items().len() < children.items().len() => {
-                    tally.refuse(alloc, path, step.rule, bare(alloc, reason::SURPLUS))
-                }
+            match answer(alloc, env, sequent, step, children.items())? {
+                Err(reason) => tally.refuse(alloc, path, step.rule, reason),
                 Ok(premises) => replay_below(
                     alloc,
                     env,
@@ -95,8 +102,13 @@ fn replay_below<L: Ledger>(
     steps: &mut Steps<L>,
 ) -> Result<(), NoMemory>
     requires { has_fault_rows tally.old.broken ≡ true }
-    ensures { OnOk result (has_fault_rows tally.new.broken ≡ true) }
+    ensures rows { OnOk result (has_fault_rows tally.new.broken ≡ true) }
+    ensures path { OnOk result (path.new ≡ path.old) }
+    ensures told { OnOk result (Told tally.old tally.new (events_below path.old 0 (map plain_sequent premises.now) (plain_scripts children.now))) }
+    ensures steps { OnOk result (steps.new ≡ steps.old + visits (events_below path.old 0 (map plain_sequent premises.now) (plain_scripts children.now))) }
+    ensures at_most { steps.new ≤ steps.old + visits (events_below path.old 0 (map plain_sequent premises.now) (plain_scripts children.now)) }
 {
+    let _goals = tally.goals;
     let mut place = 0u32;
     for (i, premise) in premises.iter().enumerate() {
         place = place.saturating_add(1);
@@ -110,28 +122,4 @@ fn replay_below<L: Ledger>(
         }
     }
     Ok(())
-}
-
-/// The premises of a step, after its text was typed.
-fn premises(
-    alloc: Global,
-    env: &Env,
-    sequent: &Sequent,
-    step: &Step,
-) -> Result<List<Sequent>, StepError> {
-    let typed = TypedStep {
-        rule: step.rule,
-        side: step.side,
-        numbers: step.numbers.copy(alloc)?,
-        text: typed_text(&step.text)?,
-    };
-    apply(alloc, env, sequent, &typed)
-}
-
-/// The text of a step after typing. No rule so far has one.
-fn typed_text(text: &StepText) -> Result<TypedText, StepError> {
-    match text {
-        StepText::Nothing => Ok(TypedText::Nothing),
-        _ => Err(StepError::Shape),
-    }
 }

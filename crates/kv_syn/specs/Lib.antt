@@ -9,3 +9,6 @@ pub mod Count
 pub mod RawCount
 pub mod Readable
 pub mod Rows
+pub mod Projects
+pub mod ProjectBridge
+pub mod Same

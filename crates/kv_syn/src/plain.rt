@@ -3,13 +3,16 @@
 ghost use Rattle.std.specs.Prelude.{◌≡◌, ◌↔◌, IfOk, IsTrue};
 
 mod forms;
+mod groups;
 mod nested;
 mod outcomes;
+mod projects;
 mod raw_forms;
 mod raw_terms;
 mod scripts;
 mod symbols;
 mod terms;
+mod units;
 
 use crate::memory::NoMemory;
 use std::alloc::Global;

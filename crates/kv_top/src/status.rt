@@ -1,5 +1,8 @@
 // How a call of the program ends.
 
+ghost use Rattle.std.specs.Prelude.{◌≡◌};
+ghost use Rattle.kv_top.specs.Statuses.{message_of};
+
 /// How a call of the program ends, with the exit code that it gives.
 #[derive(Clone, Copy, Debug, PartialEq, Eq)]
 pub enum Status {
@@ -25,7 +28,9 @@ pub enum Status {
 }
 
 /// The words for a status.
-pub fn message(status: Status) -> &'static str {
+pub fn message(status: Status) -> &'static str
+    ensures { result.now ≡ message_of status }
+{
     match status {
         Status::Done => "done",
         Status::Usage => "usage",

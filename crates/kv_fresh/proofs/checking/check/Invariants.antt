@@ -1,5 +1,7 @@
-use Rattle.std.proofs.Common.{◌≡◌, true, drop}
+use Rattle.std.proofs.Common.{◌≡◌, ◌++◌, true, drop, map}
 use Rattle.std.specs.List.{list_all}
+use Rattle.kv_fresh.specs.States.{rows_of, unit_state}
+use Rattle.kv_syn.specs.ProjectBridge.{plain_project, plain_unit}
 use Rattle.kv_syn.specs.Readable.{is_readable_unit}
 use Rattle.kv_syn.specs.Rows.{has_table_rows}
 use Rattle.kv_fresh.proofs.checking.check.Given as goal
@@ -8,4 +10,6 @@ abbrev pub invariant-loop-unit : goal.invariant-loop-unit
 invariant-loop-unit g l = record {
   rows : has_table_rows l.checked.table ≡ true;
   readable : list_all is_readable_unit (drop l.unit-index l.project.units) ≡ true;
+  states : l.checked.table.units ++ map unit_state (map plain_unit (drop l.unit-index l.project.units)) ≡ map unit_state (plain_project l.project);
+  theorems : l.checked.table.rows ++ rows_of (map plain_unit (drop l.unit-index l.project.units)) ≡ rows_of (plain_project l.project);
 }

@@ -1,8 +1,11 @@
-use Rattle.std.proofs.Common.{arith, subst, sym, drop}
+use Rattle.std.proofs.Common.{◌≡◌, ◌-◌, ◌∙◌, ap, arith, length, subst, sym, drop}
+use Rattle.std.specs.Prelude.{Some, Ok}
+use Rattle.std.proofs.lemmas.Result.{err_from_is_err_and}
 use Rattle.kv_syn.specs.RawBridge.{raw_form}
-use Rattle.kv_pexpr.specs.Gives.{kinds}
+use Rattle.kv_pexpr.specs.Gives.{kinds, seen, Gives}
 use Rattle.kv_pexpr.specs.Grammar.{ReadsForm}
 use Rattle.kv_pexpr.proofs.Behind.{Behind, behind, tail_range}
+use Rattle.kv_pexpr.proofs.Places.{stands, read_at, placed, handed_on, is_longest, is_only}
 use Rattle.kv_pexpr.proofs.grammar.formula.Goals as goal
 
 at_rest : (c : goal.In_ok-found) → Behind c.args.at c.args.tokens.now c.in_ok-found.found.rest.now
@@ -19,3 +22,24 @@ returns-clause-found c =
 
 pub returns-clause-within : goal.returns-clause-within
 returns-clause-within c = let b = at_rest c in (b.later, omega arith)
+
+-- what was read at the place
+reads_there : (c : goal.In_ok-found) → read_at c.args.tokens.now c.args.at ≡ Some (raw_form c.in_ok-found.found.tree, kinds (drop (length c.args.tokens.now - length c.in_ok-found.found.rest.now) c.args.tokens.now))
+reads_there c = placed seen c.args.tokens.now c.args.at (Ok c.in_ok-found.found) c.in_ok-found.ensures.reads ∙ ap (λ ks. Some (raw_form c.in_ok-found.found.tree, ks)) (sym (at_rest c).is)
+
+pub returns-clause-longest : goal.returns-clause-longest
+returns-clause-longest c = is_longest c.args.tokens.now c.args.at (Ok (c.in_ok-found.found.tree, length c.args.tokens.now - length c.in_ok-found.found.rest.now)) (reads_there c)
+
+pub returns-clause-only : goal.returns-clause-only
+returns-clause-only c = is_only c.args.tokens.now c.args.at (Ok (c.in_ok-found.found.tree, length c.args.tokens.now - length c.in_ok-found.found.rest.now)) (reads_there c)
+
+none_there : (c : goal.After-from_residual) → Gives (stands c.args.tokens.now) c.from_residual.result (read_at c.args.tokens.now c.args.at)
+none_there c =
+    let p = err_from_is_err_and c.from_residual.result c.from_residual.ensures.1 in
+    handed_on seen c.args.tokens.now c.args.at c.in_err-found.field-0.0 p.0 c.from_residual.result c.in_err-found.ensures.reads p.1 p.2
+
+pub returns-in_err-found-clause-longest : goal.returns-in_err-found-clause-longest
+returns-in_err-found-clause-longest c = is_longest c.args.tokens.now c.args.at c.from_residual.result (none_there c)
+
+pub returns-in_err-found-clause-only : goal.returns-in_err-found-clause-only
+returns-in_err-found-clause-only c = is_only c.args.tokens.now c.args.at c.from_residual.result (none_there c)

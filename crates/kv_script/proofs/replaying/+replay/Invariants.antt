@@ -1,6 +1,12 @@
-use Rattle.std.proofs.Common.{◌≡◌, true}
-use Rattle.kv_syn.specs.Rows.{has_fault_rows}
+use Rattle.std.proofs.Common.{◌≡◌, ◌-◌, ◌^◌, min, true}
+use Rattle.kv_script.proofs.Sofar.{Sofar}
 use Rattle.kv_script.proofs.replaying.+replay.Given as goal
+use Rattle.kv_syn.specs.Rows.{has_fault_rows}
 
 abbrev pub invariant-replay_below-loop-i : goal.invariant-replay_below-loop-i
-invariant-replay_below-loop-i g l = has_fault_rows l.tally.broken ≡ true
+invariant-replay_below-loop-i g l = record {
+  rows : has_fault_rows l.tally.broken ≡ true;
+  path_is : l.path ≡ l.fn.path;
+  place_is : l.place ≡ min l.i (2 ^ 32 - 1);
+  sofar : Sofar l.fn.path l.premises l.children l.i l.fn.tally l.tally l.fn.steps l.steps;
+}

@@ -1,0 +1,3 @@
+pub mod Calculus
+pub mod Laws
+pub mod Theories

@@ -1,0 +1,76 @@
+-- A theorem that is shown as proved has a derivation.
+use Rattle.std.proofs.Common.{◌≡◌, ℕ, zero, suc, ◌-◌, ◌^◌, ◌==◌, ◌&&◌, min, Bool, true, false, List, [], ◌∷◌, ◌++◌, Option, Some, None, is_none, Result, Ok, Err, refl, sym, ap, ◌∙◌, subst, arith}
+use Rattle.std.proofs.lemmas.Bool.{cases_Bool, cond-true, cond-false, ne_eqb}
+use Rattle.std.proofs.Math.Logic.{⊎_elim}
+use Rattle.kv_calc.specs.Calculus.{Theory, Good, Derivable, alone}
+use Rattle.kv_elab.specs.Elab.{elab_form}
+use Rattle.kv_elab.specs.Typed.{Typed}
+use Rattle.kv_elab.proofs.Typings.{form_typed}
+use Rattle.kv_elab.proofs.Within.{form_closed}
+use Rattle.kv_script.proofs.Closing.{closing}
+use Rattle.kv_fresh.specs.Backing.{IsBackedOver, IsBacked, Backing, theory_over}
+use Rattle.kv_script.specs.Reasons.{reason_with}
+use Rattle.kv_fresh.specs.States.{goal_of, is_small, nothing_around, row_of, row_where, script_of, shown, small_goal, typing_reason}
+use Rattle.kv_script.specs.Events.{Event, first_fault, goal_count, is_closed, replay_events}
+use Rattle.kv_sig.specs.FreeNames.{IsConsistent, free_form, assumed_form}
+use Rattle.kv_sig.specs.Members.{In}
+use Rattle.kv_sig.specs.Typing.{IsForm}
+use Rattle.kv_syn.specs.Projects as P
+use Rattle.kv_syn.specs.Scripts.{Script}
+use Rattle.kv_syn.specs.Trees.{Form, Name}
+use Rattle.kv_syn.specs.declared.outcomes.Fault.{Fault}
+use Rattle.kv_syn.specs.declared.outcomes.Reason.{Reason}
+use Rattle.kv_syn.specs.declared.outcomes.State.{State}
+use Rattle.kv_syn.specs.declared.outcomes.State.TheVariants.{Ill, Broken, Open, Proved}
+use Rattle.kv_syn.specs.declared.symbols.Symbol.{Symbol}
+use Rattle.kv_table.specs.declared.reason.TheConstants as reason
+
+-- what is shown as proved is closed
+closed_when : (fault : Option Fault) (n : ℕ) → shown fault (min n (2 ^ 64 - 1)) ≡ Proved → (n == 0 && is_none fault) ≡ true
+closed_when (Some fault) n h = cc
+closed_when None zero h = refl
+closed_when None (suc n) h =
+    let e : (min (suc n) (2 ^ 64 - 1) == 0) ≡ false = ne_eqb (min (suc n) (2 ^ 64 - 1)) 0 (λ z. omega arith) in
+    let left : Open (min (suc n) (2 ^ 64 - 1)) ≡ Proved = sym (cond-false (min (suc n) (2 ^ 64 - 1) == 0) Proved (Open (min (suc n) (2 ^ 64 - 1))) e) ∙ h in
+    cc
+
+closed_row : (unit name : Name) (script : Script) (goal : Result Form Reason) → (row_where unit name script goal).state ≡ Proved
+    → (f : Form) × (goal ≡ Ok f) × (is_closed (replay_events f script) ≡ true)
+closed_row unit name script (Err fault) h = let e : Ill fault ≡ Proved = h in cc
+closed_row unit name script (Ok f) h = (f, refl, closed_when (first_fault (replay_events f script)) (goal_count (replay_events f script)) h)
+
+-- a goal is a formula that typing gave
+typed_goal : (t : Typed Form) (f : Form) → small_goal t ≡ Ok f → t ≡ Ok f
+typed_goal (Err fault) f e = cc
+typed_goal (Ok g) f e =
+    let small : Result Form Reason = Ok g in
+    let large : Result Form Reason = Err (reason_with reason.LARGE []) in
+    ⊎_elim
+    (λ y. let same : small ≡ Ok f = sym (cond-true (is_small g) small large y) ∙ e in cc)
+    (λ n. let other : large ≡ Ok f = sym (cond-false (is_small g) small large n) ∙ e in cc)
+    (cases_Bool (is_small g))
+
+no_member : {A : Type 0} {x : A} (xs : List A) → xs ≡ [] → In x (xs ++ []) → ⊥
+no_member [] e i = elim i [ ]
+no_member (x ∷ xs) e i = absurd (let f : (x ∷ xs) ≡ [] = e in cc)
+
+-- a goal alone on the right is a good sequent of its unit's theory
+pub good_goal : (signature : List Symbol) (theorem : P.Theorem) (f : Form) → goal_of signature theorem ≡ Ok f → Good (theory_over signature) (alone f)
+good_goal signature theorem f e =
+    let typed = typed_goal (elab_form signature nothing_around theorem.form) f e in
+    let closed = form_closed signature nothing_around theorem.form f refl refl typed in
+    record {
+      consistent = record {
+        sorts = λ x y i j same. absurd (no_member (free_form f) closed.variables i);
+        profiles = λ p q i j same. absurd (no_member (assumed_form f) closed.procedures i);
+      };
+      lefts = tt;
+      rights = (form_typed signature nothing_around theorem.form f (record { free = tt; bound = tt; assumed = tt }) typed, tt);
+    }
+
+pub backing : Backing
+unfolding IsBacked
+backing project unit in_project theorem in_unit signature is shown_proved =
+    let script = script_of unit.proofs theorem.name in
+    let (f, goal, closed) = closed_row unit.name theorem.name script (goal_of signature theorem) shown_proved in
+    (f, goal, closing (theory_over signature) f script (good_goal signature theorem f goal) closed)

@@ -1,0 +1,25 @@
+use Rattle.std.proofs.Common.{◌≡◌, ◌∙◌, IfOk, ap, map, subst, sym}
+use Rattle.kv_fresh.specs.States.{script_of, script_or_open}
+use Rattle.kv_script.specs.Events.{outcome_of, replay_events}
+use Rattle.kv_syn.specs.Bridge.{plain_form}
+use Rattle.kv_syn.specs.ProjectBridge.{plain_proof}
+use Rattle.kv_syn.specs.ScriptBridge.{plain_script, plain_script_step}
+use Rattle.kv_syn.specs.Scripts.{Script}
+use Rattle.kv_syn.specs.declared.scripts.Script.TheFolds.{fold-roll-Script}
+use Rattle.kv_syn.specs.declared.scripts.Script.TheOpen as layer
+use Rattle.kv_syn.specs.declared.scripts.Script.TheVariants as variant
+use Rattle.kv_syn.specs.declared.outcomes.Outcome.{Outcome}
+use Rattle.kv_fresh.proofs.rows.replayed.Goals as goal
+
+hole_is : plain_script variant.Hole ≡ Script.Hole
+hole_is = ap plain_script (sym variant.rolls-Hole) ∙ fold-roll-Script Script plain_script_step layer.Hole
+
+pub returns-in-Some-clause-outcome : goal.returns-in-Some-clause-outcome
+returns-in-Some-clause-outcome g c =
+    subst (λ (s : Script). IfOk c.replay.result (λ (o : Outcome). o ≡ outcome_of (replay_events (plain_form c.args.goal.now) s)))
+    (ap script_or_open (rw c.in-Some.is at c.proof_named.ensures)) c.replay.ensures.outcome
+
+pub returns-in-None-clause-outcome : goal.returns-in-None-clause-outcome
+returns-in-None-clause-outcome g c =
+    subst (λ (s : Script). IfOk c.replay-in-None.result (λ (o : Outcome). o ≡ outcome_of (replay_events (plain_form c.args.goal.now) s)))
+    (hole_is ∙ ap script_or_open (rw c.in-None.is at c.proof_named.ensures)) c.replay-in-None.ensures.outcome

@@ -1,0 +1,71 @@
+-- What a text is answered with.
+use Rattle.std.specs.Prelude.{ℕ, ◌≡◌, ◌≢◌, ◌≤◌, List, [], ◌∷◌, length, Result, Ok, Err}
+use Rattle.std.specs.List.{All}
+use Rattle.kv_lex.specs.Tokens.{lexed}
+use Rattle.kv_lex.specs.declared.token.Token.{Token}
+use Rattle.kv_lex.specs.declared.token.TokenKind.{TokenKind}
+use Rattle.kv_lex.specs.declared.token.TokenKind.TheVariants.{Word, Number}
+use Rattle.kv_pexpr.specs.Gives.{kinds}
+use Rattle.kv_syn.specs.ProjectBridge.{plain_project}
+use Rattle.kv_syn.specs.Projects as P
+use Rattle.kv_syn.specs.declared.projects.Project.{Project}
+use Rattle.kv_table.specs.declared.keyword.TheConstants as word
+use Rattle.kv_punit.specs.Grammar.{IsProject}
+use Rattle.kv_punit.specs.Limits.{IsFirst, script_steps}
+use Rattle.kv_punit.specs.declared.errors.TextError.{TextError}
+use Rattle.kv_punit.specs.declared.errors.TextError.TheVariants as error
+use Rattle.kv_punit.specs.declared.errors.Which.TheVariants.{Steps, Units, Theorems}
+
+-- no script has more than 50,000 steps
+abbrev pub HasFewSteps : P.Project → Type 0
+HasFewSteps project = All (λ (unit : P.Unit). All (λ (proof : P.Proof). script_steps proof.script ≤ 50000) unit.proofs) project
+
+-- the text is a spelling of the project: its tokens are, and the project keeps what a project keeps so far
+pub record Reads (text : List ℕ) (project : P.Project) : Type 0 where
+  pub tokens : List Token
+  pub lexes : lexed text ≡ Ok tokens
+  pub spelt : IsProject (kinds tokens) project
+  pub first : IsFirst project
+  pub short : HasFewSteps project
+
+-- the answer is a fault of the text, and not want of memory
+abbrev pub IsRefused : Result Project TextError → Type 0
+IsRefused (Ok project) = ⊥
+IsRefused (Err error.NoMemory) = ⊥
+IsRefused (Err fault) = Unit {0}
+
+-- the version that the tokens give is another one
+abbrev pub IsOtherVersion : List TokenKind → Type 0
+IsOtherVersion ts = (n : ℕ) × (rest : List TokenKind) × (ts ≡ Word word.PROJECT ∷ Number n ∷ rest) × (n ≢ 1)
+
+-- what is answered where these projects are spelt: the one that is a project so far, and of no more steps than the limit
+abbrev pub Settles : (P.Project → Type 0) → Result Project TextError → Type 0
+Settles Is (Ok project) = Is (plain_project project) × IsFirst (plain_project project) × HasFewSteps (plain_project project)
+Settles Is (Err error.Syntax) = (project : P.Project) → Is project → IsFirst project → ⊥
+Settles Is (Err (error.Limit Steps)) = (project : P.Project) × Is project × IsFirst project × (HasFewSteps project → ⊥)
+Settles Is (Err (error.Limit Units)) = ⊥
+Settles Is (Err (error.Limit Theorems)) = ⊥
+Settles Is (Err (error.Token place)) = ⊥
+Settles Is (Err error.Version) = ⊥
+Settles Is (Err error.NoMemory) = Unit {0}
+
+-- what is answered to a text: its project, or else the first fault that it has, of these: a byte from which no token
+-- reads, another version, no project that its tokens spell, too many steps
+abbrev pub ReadsAs : List ℕ → Result Project TextError → Type 0
+ReadsAs text (Ok project) = Reads text (plain_project project)
+ReadsAs text (Err (error.Token place)) = lexed text ≡ Err place
+ReadsAs text (Err error.Version) = (tokens : List Token) × (lexed text ≡ Ok tokens) × IsOtherVersion (kinds tokens)
+ReadsAs text (Err error.NoMemory) = Unit {0}
+ReadsAs text (Err fault) = (tokens : List Token) × (lexed text ≡ Ok tokens) × (IsOtherVersion (kinds tokens) → ⊥) × Settles (IsProject (kinds tokens)) (Err fault)
+
+-- a unit with one theorem and at most one proof
+abbrev pub IsSmall : P.Unit → Type 0
+IsSmall unit = (theorem : P.Theorem) × (unit.theorems ≡ theorem ∷ []) × (length unit.proofs ≤ 1)
+
+-- the same tokens spell no two projects
+abbrev pub OneSpelling : Type 0
+OneSpelling = (ts : List TokenKind) (p q : P.Project) → IsProject ts p → IsProject ts q → p ≡ q
+
+-- one text is one project
+abbrev pub OneProject : Type 0
+OneProject = (text : List ℕ) (p q : P.Project) → Reads text p → Reads text q → p ≡ q

@@ -1,0 +1,216 @@
+// Texts that are read, and texts that aren't.
+
+use crate::{TextError, Which, project};
+use std::alloc::{AllocError, Global};
+use std::test::Fail;
+
+const DEMO: &str =
+    "project 1\nunit A basic\n  pred a;\nend\ntheorem t : a -> a;\nproof t = impR 1; close 1 1 qed\n";
+
+const HEAD: &str = "project 1 unit A basic pred a; pred b; end ";
+
+const FAULT: Option<TextError> = Some(TextError::Syntax);
+
+/// Why the text isn't read, if it isn't.
+fn refused(alloc: Global, text: &[u8]) -> Option<TextError> {
+    project(alloc, text).err()
+}
+
+/// The head, and behind it the text so often, and the end.
+fn repeated(
+    alloc: Global,
+    begin: &str,
+    part: &str,
+    count: usize,
+    end: &str,
+) -> Result<String, AllocError> {
+    let mut text = String::from_str(alloc, HEAD)?;
+    text.push_str(begin)?;
+    for _ in 0..count {
+        text.push_str(part)?;
+    }
+    text.push_str(end)?;
+    Ok(text)
+}
+
+#[test]
+fn whole_texts(rt: HostRuntime) -> Result<(), Fail> {
+    let cases: [(&str, Option<TextError>); 14] = [
+        (DEMO, None),
+        (
+            "project 1\r\nunit A basic\r\n  pred a;\r\nend\r\ntheorem t : a -> a;\r\nproof t = impR 1; close 1 1 qed\r\n",
+            None,
+        ),
+        ("project 01 unit A basic pred a; end theorem t : a;%", None),
+        (
+            "project 2 unit A basic pred a; end theorem t : a;",
+            Some(TextError::Version),
+        ),
+        ("project 0", Some(TextError::Version)),
+        ("project 2 &", Some(TextError::Token { place: 10 })),
+        ("project x", FAULT),
+        ("", FAULT),
+        ("project 1", FAULT),
+        ("project 1 unit A basic pred a end theorem t : a;", FAULT),
+        (
+            "project 1 unit A basic pred unit; end theorem t : unit;",
+            FAULT,
+        ),
+        ("project 1 unit A basic end theorem t : a;", FAULT),
+        ("project 1 unit A enrich pred a; end theorem t : a;", FAULT),
+        ("project 1 unit A basic pred a; end", FAULT),
+    ];
+    for (i, (text, want)) in cases.iter().enumerate() {
+        assert!(rt; refused(rt.alloc(), text.as_bytes()) == *want, "case {i}");
+    }
+    Ok(())
+}
+
+#[test]
+fn theorems_and_proofs(rt: HostRuntime) -> Result<(), Fail> {
+    let cases: [(&str, Option<TextError>); 26] = [
+        ("theorem t : (a -> b) -> a; proof t = open qed", None),
+        ("theorem t : a; proof t = impR 1 qed", None),
+        ("theorem t : a; proof t = impR 1; open qed", None),
+        ("theorem t : a; proof t = impR 1 { open } qed", None),
+        (
+            "theorem t : a; proof t = impR 1 { open | close 1 2 | impR 3; open } qed",
+            None,
+        ),
+        (
+            "theorem t : a; proof t = impR 1 { impR 2 { open | open } | open } qed",
+            None,
+        ),
+        ("theorem t : a; proof u = open qed", FAULT),
+        ("theorem t : a; proof t.u = open qed", FAULT),
+        (
+            "theorem t : a; proof t = open qed proof t = open qed",
+            FAULT,
+        ),
+        ("theorem t : a; theorem u : a;", FAULT),
+        ("theorem t : c;", FAULT),
+        ("theorem t : a(b);", FAULT),
+        ("theorem t : a -> ;", FAULT),
+        ("theorem t : [a];", FAULT),
+        ("theorem t : a", FAULT),
+        ("theorem t a;", FAULT),
+        ("theorem t : a; simp", FAULT),
+        ("theorem t : a; proof t = qed", FAULT),
+        ("theorem t : a; proof t = open", FAULT),
+        ("theorem t : a; proof t := open qed", FAULT),
+        ("theorem t : a; proof t = close 1 qed", FAULT),
+        ("theorem t : a; proof t = impR 1 { } qed", FAULT),
+        ("theorem t : a; proof t = impR 1 { open | } qed", FAULT),
+        ("theorem t : a; proof t = impR 1 [ open ] qed", FAULT),
+        ("theorem t : a; proof t = impR 1; open; open qed", FAULT),
+        ("theorem t : a; proof t = impL 1 qed", FAULT),
+    ];
+    for (i, (text, want)) in cases.iter().enumerate() {
+        let whole = repeated(rt.alloc(), text, "", 0, "")?;
+        assert!(rt; refused(rt.alloc(), whole.as_bytes()) == *want, "case {i}");
+    }
+    Ok(())
+}
+
+#[test]
+fn bytes_without_a_token(rt: HostRuntime) -> Result<(), Fail> {
+    let cases: [(&[u8], usize); 5] = [
+        (b"project 1 unit A basic pred a; end theorem t : a & a;", 49),
+        (b"project 1 unit a\xffb basic end", 16),
+        (b"project 1 % \xff\nunit", 12),
+        (
+            b"project 1 unit A basic pred a; end theorem t : a -> a;\xff",
+            54,
+        ),
+        (b"project 1 unit A basic pred a; end theorem t : a - a;", 49),
+    ];
+    for (i, (text, place)) in cases.iter().enumerate() {
+        assert!(rt;
+            refused(rt.alloc(), text) == Some(TextError::Token { place: *place }),
+            "case {i}"
+        );
+    }
+    Ok(())
+}
+
+/// A front of the text is read where the theorem has ended and no proof has begun, or the proof has ended.
+#[test]
+fn fronts(rt: HostRuntime) -> Result<(), Fail> {
+    let text = DEMO.as_bytes();
+    for size in 0..text.len() + 1 {
+        let want = match size {
+            56 | 57 | 88 | 89 => None,
+            52 => Some(TextError::Token { place: 51 }),
+            _ => FAULT,
+        };
+        assert!(rt; refused(rt.alloc(), &text[..size]) == want, "front {size}");
+    }
+    Ok(())
+}
+
+#[test]
+fn names_of_64_bytes(rt: HostRuntime) -> Result<(), Fail> {
+    for (count, want) in [(64, None), (65, Some(TextError::Token { place: 51 }))] {
+        let text = repeated(rt.alloc(), "theorem ", "x", count, " : a;")?;
+        assert!(rt; refused(rt.alloc(), text.as_bytes()) == want, "{count}");
+    }
+    Ok(())
+}
+
+#[test]
+fn depths(rt: HostRuntime) -> Result<(), Fail> {
+    let alloc = rt.alloc();
+    for (count, want) in [(149, None), (150, None), (151, FAULT)] {
+        let mut text = repeated(alloc, "theorem t : ", "(", count, "a")?;
+        for _ in 0..count {
+            text.push_str(")")?;
+        }
+        text.push_str(";")?;
+        assert!(rt; refused(alloc, text.as_bytes()) == want, "brackets {count}");
+        let arrows = repeated(alloc, "theorem t : ", "a -> ", count - 1, "a;")?;
+        assert!(rt; refused(alloc, arrows.as_bytes()) == want, "arrows {count}");
+    }
+    for (count, want) in [(499, None), (500, None), (501, FAULT)] {
+        let last = repeated(
+            alloc,
+            "theorem t : a; proof t = ",
+            "impR 1; ",
+            count - 1,
+            "close 1 1 qed",
+        )?;
+        assert!(rt; refused(alloc, last.as_bytes()) == want, "steps {count}");
+        let hole = repeated(
+            alloc,
+            "theorem t : a; proof t = ",
+            "impR 1; ",
+            count,
+            "open qed",
+        )?;
+        assert!(rt;
+            refused(alloc, hole.as_bytes()) == want,
+            "steps and open {count}"
+        );
+    }
+    for (count, want) in [
+        (49_999, None),
+        (
+            50_000,
+            Some(TextError::Limit {
+                which: Which::Steps,
+            }),
+        ),
+    ] {
+        let wide = repeated(
+            alloc,
+            "theorem t : a; proof t = impR 1 { open",
+            " | impR 1",
+            count,
+            "} qed",
+        )?;
+        assert!(rt;
+            refused(alloc, wide.as_bytes()) == want,
+            "all steps {count}"
+        );
+    }
+    Ok(())
+}

@@ -1,0 +1,47 @@
+-- The outcome of a whole replay.
+use Rattle.std.proofs.Common.{ℕ, Bool, zero, suc, ◌+◌, ◌-◌, ◌^◌, min, List, [], ◌∷◌, ◌++◌, map, Option, None, is_none, ◌==◌, ◌&&◌, ◌≡◌, sym, ap, ap₂, ◌∙◌, arith}
+use Rattle.std.proofs.lemmas.Bool.{ne_eqb}
+use Rattle.kv_script.specs.Events.{Event, outcome_of, first_fault, goal_count, goal_sequent, is_closed, used_labels, asked_looks}
+use Rattle.kv_script.specs.Once.{names_once, looks_once}
+use Rattle.kv_script.specs.Tallies.{Told}
+use Rattle.kv_script.specs.declared.tally.Tally.{Tally}
+use Rattle.kv_script.proofs.Told.{no_uses, no_looks}
+use Rattle.kv_syn.specs.Bridge.{plain_form, plain_sequent}
+use Rattle.kv_syn.specs.Trees as P
+use Rattle.kv_syn.specs.Trees.{Name}
+use Rattle.kv_syn.specs.declared.outcomes.Look.{Look}
+use Rattle.kv_syn.specs.declared.outcomes.Fault.{Fault}
+use Rattle.kv_syn.specs.declared.outcomes.Outcome.{Outcome}
+use Rattle.kv_syn.specs.declared.trees.Form.{Form}
+
+abbrev pub at_start : Tally
+at_start = record { goals = 0; broken = None }
+
+abbrev pub tally_outcome : Tally → Outcome
+tally_outcome t = record { closed = t.goals == 0 && is_none t.broken; goals = t.goals; broken = t.broken; uses = []; looks = [] }
+
+-- a count that stands at a greatest value is 0 exactly where the number is
+none_alike : (n m : ℕ) → m ≡ min n (2 ^ 64 - 1) → (m == 0) ≡ (n == 0)
+none_alike zero m h =
+    let e : m ≡ 0 = omega arith in
+    ap (λ x. x == 0) e
+none_alike (suc n) m h = ne_eqb m 0 (λ (e : m ≡ 0). omega arith) ∙ sym (ne_eqb (suc n) 0 (λ (e : suc n ≡ 0). omega arith))
+
+abbrev outcome : Bool → ℕ → Option Fault → List Name → List Look → Outcome
+outcome closed goals broken uses looks = record { closed = closed; goals = goals; broken = broken; uses = uses; looks = looks }
+
+pub told_outcome : (o : Outcome) (t : Tally) (es : List Event) → o ≡ tally_outcome t → Told at_start t es → o ≡ outcome_of es
+told_outcome o t es is told =
+    let count : t.goals ≡ min (goal_count es) (2 ^ 64 - 1) = omega (arith, told.goals) in
+    let closed : (t.goals == 0 && is_none t.broken) ≡ is_closed es = ap₂ (λ b (f : Option Fault). b && is_none f) (none_alike (goal_count es) t.goals count) told.broken in
+    is
+    ∙ ap (λ b. outcome b t.goals t.broken [] []) closed
+    ∙ ap (λ n. outcome (is_closed es) n t.broken [] []) count
+    ∙ ap (λ f. outcome (is_closed es) (min (goal_count es) (2 ^ 64 - 1)) f [] []) told.broken
+    ∙ ap₂ (outcome (is_closed es) (min (goal_count es) (2 ^ 64 - 1)) (first_fault es)) (sym (ap names_once (no_uses es))) (sym (ap looks_once (no_looks es)))
+
+abbrev sides : List Form → List Form → P.Sequent
+sides left right = record { left = map plain_form left; right = map plain_form right }
+
+pub goal_alone : (left right before : List Form) (copy goal : Form) → left ≡ [] → before ≡ [] → right ≡ before ++ copy ∷ [] → copy ≡ goal → sides left right ≡ goal_sequent (plain_form goal)
+goal_alone left right before copy goal e none pushed same = ap₂ sides e (pushed ∙ ap₂ (λ fs f. fs ++ f ∷ []) none same)

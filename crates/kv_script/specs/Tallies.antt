@@ -1,0 +1,24 @@
+-- Events that are told to a tally.
+use Rattle.std.specs.Prelude.{ℕ, ◌+◌, ◌-◌, ◌^◌, min, List, map, Option, Some, None, Ok, Err, Result, ◌≡◌}
+use Rattle.kv_script.specs.Answers.{Answer}
+use Rattle.kv_script.specs.Events.{Event, goal_count, first_fault}
+use Rattle.kv_script.specs.declared.tally.Tally.{Tally}
+use Rattle.kv_syn.specs.Bridge.{plain_sequent}
+use Rattle.kv_syn.specs.declared.outcomes.Fault.{Fault}
+use Rattle.kv_syn.specs.declared.outcomes.Reason.{Reason}
+use Rattle.kv_syn.specs.declared.trees.Sequent.{Sequent}
+
+-- the answer of the code as plain data
+abbrev pub plain_answer : Result (List Sequent) Reason → Answer
+plain_answer (Ok ps) = Ok (map plain_sequent ps)
+plain_answer (Err reason) = Err reason
+
+-- the first one, where there is one
+abbrev pub or_first : Option Fault → Option Fault → Option Fault
+or_first None fault = fault
+or_first (Some first) fault = Some first
+
+-- the tally tells of these events after what it told before
+pub record Told (before now : Tally) (es : List Event) : Type 0 where
+  pub goals : now.goals ≡ min (before.goals + goal_count es) (2 ^ 64 - 1)
+  pub broken : now.broken ≡ or_first before.broken (first_fault es)
