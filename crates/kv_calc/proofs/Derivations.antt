@@ -1,10 +1,10 @@
 -- The laws of derivations.
-use Rattle.std.proofs.Common.{List, [], ◌∷◌, ◌++◌, ◌≡◌, ◌⊎◌, inl, inr, refl, sym, ap, subst}
+use Rattle.std.proofs.Common.{List, [], ◌∷◌, ◌++◌, ◌≡◌, refl, sym, ap, subst}
 use Rattle.kv_syn.specs.Trees.{Form, Sequent}
-use Rattle.kv_sig.specs.Members.{In, here, there, Every}
-use Rattle.kv_calc.specs.Calculus.{Theory, Good, Step, Rule, Deriv, Derivs, root_of, roots_of, Valid, AllValid, IsDeriv, Derivable, sequent, alone}
+use Rattle.kv_sig.specs.Members.{here, there, Every}
+use Rattle.kv_calc.specs.Calculus.{Theory, Good, Step, Rule, Deriv, Derivs, root_of, roots_of, Valid, AllValid, Derivable, sequent, alone}
 use Rattle.kv_calc.specs.Laws.{extended, Dropping, Cutting}
-use Rattle.kv_calc.proofs.Members.{Sub, in_front, in_back, in_either, every_in, every_of, every_push}
+use Rattle.kv_calc.proofs.Members.{in_front, in_back, every_in, every_of, every_push}
 use Rattle.kv_calc.proofs.Parts.{Part, left_parts, right_parts, good_parts, good_sub}
 
 -- ---- one step above derivations

@@ -1,8 +1,8 @@
 -- Facts on the members of lists.
-use Rattle.std.proofs.Common.{ℕ, zero, suc, Bool, true, false, ◌==◌, if◌then◌else◌, List, [], ◌∷◌, ◌++◌, take, drop, set, Option, Some, None, ◌≡◌, ◌⊎◌, inl, inr, ◌-◌, refl, ap, subst}
+use Rattle.std.proofs.Common.{ℕ, zero, suc, Bool, true, false, ◌==◌, if◌then◌else◌, List, [], ◌∷◌, ◌++◌, take, drop, set, Option, Some, None, ◌≡◌, ◌⊎◌, inl, inr, ◌-◌, subst}
 use Rattle.std.specs.List.{slice_get}
 use Rattle.kv_sig.specs.Members.{In, here, there, Every}
-use Rattle.kv_sig.specs.Places.{item_at, with_item, without_item}
+use Rattle.kv_sig.specs.Places.{item_at, with_items, without_item}
 
 abbrev pub Sub : {A : Type 0} → List A → List A → Type 0
 Sub {A} xs ys = (x : A) → In x xs → In x ys
@@ -72,3 +72,21 @@ in_drop (suc n) (y ∷ xs) x i = there (in_drop n xs x i)
 
 pub in_without : {A : Type 0} (xs : List A) (i : ℕ) → Sub (without_item xs i) xs
 in_without xs i x m = elim (in_either (take (i - 1) xs) (drop i xs) m) [ inl a ↦ in_take (i - 1) xs x a | inr b ↦ in_drop i xs x b ]
+
+-- ---- every item of a list without an item, or with others in its place
+
+every_append : {A : Type 0} (P : A → Type 0) (xs ys : List A) → Every P xs → Every P ys → Every P (xs ++ ys)
+every_append P [] ys e f = f
+every_append P (x ∷ xs) ys e f = (e.0, every_append P xs ys e.1 f)
+
+every_sub : {A : Type 0} (P : A → Type 0) (xs ys : List A) → Sub xs ys → Every P ys → Every P xs
+every_sub P xs ys s e = every_of P xs (λ x i. every_in P ys e x (s x i))
+
+pub every_without : {A : Type 0} (P : A → Type 0) (xs : List A) (i : ℕ) → Every P xs → Every P (without_item xs i)
+every_without P xs i e = every_sub P (without_item xs i) xs (in_without xs i) e
+
+pub every_with_items : {A : Type 0} (P : A → Type 0) (xs : List A) (i : ℕ) (new : List A) → Every P xs → Every P new → Every P (with_items xs i new)
+every_with_items P xs i new e f =
+    every_append P (take (i - 1) xs ++ new) (drop i xs)
+    (every_append P (take (i - 1) xs) new (every_sub P (take (i - 1) xs) xs (in_take (i - 1) xs) e) f)
+    (every_sub P (drop i xs) xs (in_drop i xs) e)

@@ -1,5 +1,5 @@
 -- Sequents of parts of a good sequent are good.
-use Rattle.std.proofs.Common.{List, [], ◌∷◌, ◌++◌, ◌≡◌, ◌⊎◌, inl, inr, refl}
+use Rattle.std.proofs.Common.{List, [], ◌∷◌, ◌++◌, inl, inr}
 use Rattle.kv_syn.specs.Trees.{Name, Form, Sequent}
 use Rattle.kv_syn.specs.declared.symbols.Profile.{Profile}
 use Rattle.kv_syn.specs.declared.symbols.Var.{Var}

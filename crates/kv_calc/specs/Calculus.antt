@@ -1,12 +1,12 @@
 -- The calculus: theories, the schemas of rules, and derivations.
-use Rattle.std.specs.Prelude.{◌≡◌, ℕ, List, [], ◌∷◌, ◌++◌, Option, Some}
+use Rattle.std.specs.Prelude.{◌≡◌, ℕ, List, [], ◌∷◌, ◌++◌, Some}
 use Rattle.kv_syn.specs.Trees.{Name, Form, Prog, Sequent}
 use Rattle.kv_syn.specs.declared.symbols.Symbol.{Symbol}
 use Rattle.kv_syn.specs.declared.units.Gen.{Gen}
 use Rattle.kv_sig.specs.Members.{In, Every}
 use Rattle.kv_sig.specs.Typing.{IsForm}
 use Rattle.kv_sig.specs.FreeNames.{IsConsistent}
-use Rattle.kv_sig.specs.Places.{item_at, with_item, without_item}
+use Rattle.kv_sig.specs.Places.{item_at, with_item, with_items, without_item}
 
 -- what a procedure does, with its parameters as Bound numbers
 pub record Body : Type 0 where
@@ -36,6 +36,9 @@ alone f = sequent [] (f ∷ [])
 -- a schema with its choices: places of formulas, counted from 1 on their side, or a formula
 pub data Step : Type 0 where
   close : (i j : ℕ) → Step
+  and_left : (i : ℕ) → Step
+  and_right : (i : ℕ) → Step
+  imp_left : (i : ℕ) → Step
   imp_right : (i : ℕ) → Step
   drop_left : (i : ℕ) → Step
   drop_right : (i : ℕ) → Step
@@ -46,6 +49,16 @@ pub data Step : Type 0 where
 abbrev pub Rule : Theory → Step → Sequent → List Sequent → Type 0
 -- close i j: the i-th on the left is the j-th on the right; nothing is left to show
 Rule T (Step.close i j) S premises = (f : Form) × (item_at S.left i ≡ Some f) × (item_at S.right j ≡ Some f) × (premises ≡ [])
+-- and_left i: the i-th on the left is `a and b`; a and then b take its place
+Rule T (Step.and_left i) S premises = (a : Form) × (b : Form) × (item_at S.left i ≡ Some (Form.And a b))
+    × (premises ≡ sequent (with_items S.left i (a ∷ b ∷ [])) S.right ∷ [])
+-- and_right i: the i-th on the right is `a and b`; a is to be shown in its place, and so is b
+Rule T (Step.and_right i) S premises = (a : Form) × (b : Form) × (item_at S.right i ≡ Some (Form.And a b))
+    × (premises ≡ sequent S.left (with_item S.right i a) ∷ sequent S.left (with_item S.right i b) ∷ [])
+-- imp_left i: the i-th on the left is `a -> b`; in the first premise it is taken away and a is to be shown at the end of the
+-- right, in the second b stands in its place
+Rule T (Step.imp_left i) S premises = (a : Form) × (b : Form) × (item_at S.left i ≡ Some (Form.Imp a b))
+    × (premises ≡ sequent (without_item S.left i) (S.right ++ a ∷ []) ∷ sequent (with_item S.left i b) S.right ∷ [])
 -- imp_right i: the i-th on the right is `a -> b`; a goes to the end of the left, and b stays in place
 Rule T (Step.imp_right i) S premises = (a : Form) × (b : Form) × (item_at S.right i ≡ Some (Form.Imp a b))
     × (premises ≡ sequent (S.left ++ a ∷ []) (with_item S.right i b) ∷ [])

@@ -1,27 +1,29 @@
 -- A theorem that is shown as proved has a derivation.
-use Rattle.std.proofs.Common.{◌≡◌, ℕ, zero, suc, ◌-◌, ◌^◌, ◌==◌, ◌&&◌, min, Bool, true, false, List, [], ◌∷◌, ◌++◌, Option, Some, None, is_none, Result, Ok, Err, refl, sym, ap, ◌∙◌, subst, arith}
+use Rattle.std.proofs.Common.{◌≡◌, ℕ, zero, suc, ◌-◌, ◌^◌, ◌==◌, ◌&&◌, min, true, false, List, [], ◌∷◌, ◌++◌, Option, Some, None, is_none, Result, Ok, Err, refl, sym, ap, ◌∙◌, arith, map, inl, inr}
+use Rattle.std.specs.Prelude.{filter}
 use Rattle.std.proofs.lemmas.Bool.{cases_Bool, cond-true, cond-false, ne_eqb}
 use Rattle.std.proofs.Math.Logic.{⊎_elim}
-use Rattle.kv_calc.specs.Calculus.{Theory, Good, Derivable, alone}
+use Rattle.kv_calc.specs.Calculus.{Good, alone}
+use Rattle.kv_calc.proofs.Members.{in_either}
 use Rattle.kv_elab.specs.Elab.{elab_form}
 use Rattle.kv_elab.specs.Typed.{Typed}
 use Rattle.kv_elab.proofs.Typings.{form_typed}
 use Rattle.kv_elab.proofs.Within.{form_closed}
 use Rattle.kv_script.proofs.Closing.{closing}
-use Rattle.kv_fresh.specs.Backing.{IsBackedOver, IsBacked, Backing, theory_over}
+use Rattle.kv_flat.specs.Units.{signature_of}
+use Rattle.kv_fresh.specs.Backing.{AreProvedTheorems, AreTheoremsBacked, IsBacked, IsOfTheorem, Backing, theory_over}
 use Rattle.kv_script.specs.Reasons.{reason_with}
-use Rattle.kv_fresh.specs.States.{goal_of, is_small, nothing_around, row_of, row_where, script_of, shown, small_goal, typing_reason}
-use Rattle.kv_script.specs.Events.{Event, first_fault, goal_count, is_closed, replay_events}
-use Rattle.kv_sig.specs.FreeNames.{IsConsistent, free_form, assumed_form}
-use Rattle.kv_sig.specs.Members.{In}
-use Rattle.kv_sig.specs.Typing.{IsForm}
+use Rattle.kv_fresh.specs.States.{goal_of, idle_row, idle_rows, ill_row, is_idle, is_small, nothing_around, row_of, row_where, rows_of, rows_where, script_of, shown, small_goal, theorem_rows}
+use Rattle.kv_script.specs.Events.{first_fault, goal_count, is_closed, replay_events}
+use Rattle.kv_sig.specs.FreeNames.{free_form, assumed_form}
+use Rattle.kv_sig.specs.Members.{In, here, there}
 use Rattle.kv_syn.specs.Projects as P
 use Rattle.kv_syn.specs.Scripts.{Script}
 use Rattle.kv_syn.specs.Trees.{Form, Name}
 use Rattle.kv_syn.specs.declared.outcomes.Fault.{Fault}
 use Rattle.kv_syn.specs.declared.outcomes.Reason.{Reason}
-use Rattle.kv_syn.specs.declared.outcomes.State.{State}
-use Rattle.kv_syn.specs.declared.outcomes.State.TheVariants.{Ill, Broken, Open, Proved}
+use Rattle.kv_syn.specs.declared.outcomes.Row.{Row}
+use Rattle.kv_syn.specs.declared.outcomes.State.TheVariants.{Ill, Open, Proved, Idle}
 use Rattle.kv_syn.specs.declared.symbols.Symbol.{Symbol}
 use Rattle.kv_table.specs.declared.reason.TheConstants as reason
 
@@ -68,9 +70,48 @@ good_goal signature theorem f e =
       rights = (form_typed signature nothing_around theorem.form f (record { free = tt; bound = tt; assumed = tt }) typed, tt);
     }
 
-pub backing : Backing
-unfolding IsBacked
-backing project unit in_project theorem in_unit signature is shown_proved =
+theorems_backed : (project : P.Project) → AreTheoremsBacked project
+theorems_backed project unit in_project theorem in_unit signature is shown_proved =
     let script = script_of unit.proofs theorem.name in
     let (f, goal, closed) = closed_row unit.name theorem.name script (goal_of signature theorem) shown_proved in
     (f, goal, closing (theory_over signature) f script (good_goal signature theorem f goal) closed)
+
+-- ---- rows that are shown as proved
+
+-- what an item of a mapped list comes from
+mapped_from : {A B : Type 0} (f : A → B) (xs : List A) (y : B) → In y (map f xs) → (x : A) × In x xs × (y ≡ f x)
+mapped_from f [] y i = elim i [ ]
+mapped_from f (x ∷ xs) y here = (x, here, refl)
+mapped_from f (x ∷ xs) y (there i) = let (z, j, is) = mapped_from f xs y i in (z, there j, is)
+
+-- the row of an idle proof isn't shown as proved
+idle_unproved : (unit : P.Unit) (row : Row) → In row (idle_rows unit) → row.state ≡ Proved → ⊥
+idle_unproved unit row i shown_proved =
+    let (proof, _, is) = mapped_from (idle_row unit.name) (filter (is_idle unit.theorems) unit.proofs) row i in
+    let idle : Idle ≡ Proved = sym (ap (λ (r : Row). r.state) is) ∙ shown_proved in cc
+
+-- among the rows of a unit's theorems, those that are shown as proved have a signature
+theorem_proved : (unit : P.Unit) (found : Result (List Symbol) Reason) → signature_of unit ≡ found → (row : Row) → In row (theorem_rows unit found) → row.state ≡ Proved
+    → (units : List P.Unit) → IsOfTheorem (unit ∷ units) row
+theorem_proved unit (Ok signature) good row i shown_proved units =
+    let (theorem, in_unit, is) = mapped_from (row_of unit.name signature unit.proofs) unit.theorems row i in
+    record { unit = unit; in_project = here; theorem = theorem; in_unit = in_unit; signature = signature; good = good; row_is = is }
+theorem_proved unit (Err fault) bad row i shown_proved units =
+    let (theorem, _, is) = mapped_from (λ (t : P.Theorem). ill_row unit.name t.name (reason_with reason.UNIT [])) unit.theorems row i in
+    let ill : Ill (reason_with reason.UNIT []) ≡ Proved = sym (ap (λ (r : Row). r.state) is) ∙ shown_proved in absurd (cc)
+
+proved_theorems : (project : P.Project) → AreProvedTheorems project
+proved_theorems [] row i shown_proved = elim i [ ]
+proved_theorems (unit ∷ units) row i shown_proved = elim (in_either (rows_where unit (signature_of unit)) (rows_of units) i) [
+  | inl own ↦ elim (in_either (theorem_rows unit (signature_of unit)) (idle_rows unit) own) [
+    | inl j ↦ theorem_proved unit (signature_of unit) refl row j shown_proved units
+    | inr j ↦ absurd (idle_unproved unit row j shown_proved)
+  ]
+  | inr j ↦
+      let of = proved_theorems units row j shown_proved in
+      record { unit = of.unit; in_project = there of.in_project; theorem = of.theorem; in_unit = of.in_unit; signature = of.signature; good = of.good; row_is = of.row_is }
+]
+
+pub backing : Backing
+unfolding IsBacked
+backing project = (theorems_backed project, proved_theorems project)

@@ -1,4 +1,5 @@
 pub mod States
 pub mod Goals
+pub mod Indexes
 pub mod Tables
 pub mod Backing

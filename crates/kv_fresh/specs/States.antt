@@ -1,7 +1,7 @@
 -- The states of a project, so far of basic units, from nothing but the project.
-use Rattle.std.specs.Prelude.{ℕ, ◌==◌, Bool, ◌&&◌, nat_le, if◌then◌else◌, List, [], ◌∷◌, ◌++◌, map, Option, Some, None, Result, Ok, Err}
+use Rattle.std.specs.Prelude.{ℕ, ◌==◌, Bool, not, ◌&&◌, nat_le, if◌then◌else◌, List, [], ◌∷◌, ◌++◌, filter, map, Option, Some, None, Result, Ok, Err}
 use Rattle.std.specs.Str.{bytes_eq}
-use Rattle.std.specs.List.{find}
+use Rattle.std.specs.List.{find, list_any}
 use Rattle.kv_elab.specs.Elab.{elab_form}
 use Rattle.kv_elab.specs.declared.contexts.Context.{Context}
 use Rattle.kv_elab.specs.declared.errors.TypeError.{TypeError}
@@ -20,7 +20,7 @@ use Rattle.kv_syn.specs.declared.outcomes.Outcome.{Outcome}
 use Rattle.kv_syn.specs.declared.outcomes.Reason.{Reason}
 use Rattle.kv_syn.specs.declared.outcomes.Row.{Row}
 use Rattle.kv_syn.specs.declared.outcomes.State.{State}
-use Rattle.kv_syn.specs.declared.outcomes.State.TheVariants.{Ill, Broken, Open, Proved}
+use Rattle.kv_syn.specs.declared.outcomes.State.TheVariants.{Ill, Broken, Open, Proved, Idle}
 use Rattle.kv_syn.specs.declared.outcomes.Table.{Table}
 use Rattle.kv_syn.specs.declared.outcomes.UnitState.{UnitState}
 use Rattle.kv_syn.specs.declared.outcomes.UnitState.TheVariants.{Good, Bad}
@@ -80,9 +80,28 @@ abbrev pub row_of : Name → List Symbol → List P.Proof → P.Theorem → Row
 row_of unit signature proofs theorem = row_where unit theorem.name (script_of proofs theorem.name) (goal_of signature theorem)
 
 -- the rows of a unit's theorems, in order; those of a bad unit are ill
+abbrev pub theorem_rows : P.Unit → Result (List Symbol) Reason → List Row
+theorem_rows unit (Ok signature) = map (row_of unit.name signature unit.proofs) unit.theorems
+theorem_rows unit (Err fault) = map (λ (theorem : P.Theorem). ill_row unit.name theorem.name (reason_with reason.UNIT [])) unit.theorems
+
+-- whether one of the theorems has the name
+abbrev pub is_theorem : List P.Theorem → Name → Bool
+is_theorem theorems name = list_any (λ (theorem : P.Theorem). bytes_eq theorem.name name) theorems
+
+-- a proof whose name is not the name of a theorem of its unit is idle
+abbrev pub is_idle : List P.Theorem → P.Proof → Bool
+is_idle theorems proof = not (is_theorem theorems proof.name)
+
+abbrev pub idle_row : Name → P.Proof → Row
+idle_row unit proof = record { unit = unit; name = proof.name; state = Idle; outcome = None }
+
+-- the rows of a unit's idle proofs, in order, be the unit good or bad
+abbrev pub idle_rows : P.Unit → List Row
+idle_rows unit = map (idle_row unit.name) (filter (is_idle unit.theorems) unit.proofs)
+
+-- the rows of a unit: those of its theorems, then those of its idle proofs
 abbrev pub rows_where : P.Unit → Result (List Symbol) Reason → List Row
-rows_where unit (Ok signature) = map (row_of unit.name signature unit.proofs) unit.theorems
-rows_where unit (Err fault) = map (λ (theorem : P.Theorem). ill_row unit.name theorem.name (reason_with reason.UNIT [])) unit.theorems
+rows_where unit found = theorem_rows unit found ++ idle_rows unit
 
 abbrev pub state_where : Result (List Symbol) Reason → UnitState
 state_where (Ok signature) = Good
@@ -95,6 +114,6 @@ rows_of (unit ∷ units) = rows_where unit (signature_of unit) ++ rows_of units
 abbrev pub unit_state : P.Unit → Name × UnitState
 unit_state unit = (unit.name, state_where (signature_of unit))
 
--- the states of the units, and the rows of their theorems unit by unit
+-- the states of the units, and their rows unit by unit
 abbrev pub table_of : P.Project → Table
 table_of project = record { units = map unit_state project; rows = rows_of project }

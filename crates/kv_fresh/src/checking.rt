@@ -4,16 +4,17 @@ ghost use Rattle.std.specs.Prelude.{◌≡◌, ◌++◌, ◌∷◌, [], map, tru
 ghost use Rattle.std.specs.List.{list_all};
 ghost use Rattle.kv_flat.specs.Units.{signature_of};
 ghost use Rattle.kv_script.specs.Reasons.{reason_with};
-ghost use Rattle.kv_fresh.specs.States.{ill_row, row_of, rows_where, state_where, table_of};
-ghost use Rattle.kv_fresh.specs.Tables.{with_unit};
+ghost use Rattle.kv_fresh.specs.States.{idle_rows, ill_row, table_of, theorem_rows};
+ghost use Rattle.kv_fresh.specs.Tables.{with_theorems, with_unit};
 ghost use Rattle.kv_syn.specs.ProjectBridge.{plain_project, plain_proof, plain_theorem, plain_unit};
 ghost use Rattle.kv_syn.specs.Projects as P;
 ghost use Rattle.kv_syn.specs.Readable.{is_readable_unit};
 ghost use Rattle.kv_syn.specs.Rows.{has_row_rows, has_table_rows, has_unit_state_rows};
 ghost use Rattle.kv_table.specs.declared.reason.TheConstants.{UNIT};
 
+use crate::indexes::{proofs_by_name, theorem_names};
 use crate::reasons::bare;
-use crate::rows::{ill_row, row};
+use crate::rows::{idle_row, ill_row, row};
 use kv_flat::{Checked, FlatError, FlatForm, FlatRow, Judged, flatten};
 use kv_sig::Flat;
 use kv_syn::{List, Name, NoMemory, Plain, Project, Row, Steps, Table, Unit, UnitState};
@@ -43,7 +44,7 @@ pub fn check<L: Ledger>(
     Ok(checked)
 }
 
-/// Judges a unit over those before it, and adds its rows.
+/// Judges a unit over those before it, and adds its rows: those of its theorems, then those of its idle proofs.
 fn check_unit<L: Ledger>(
     alloc: Global,
     unit: &Unit,
@@ -53,6 +54,22 @@ fn check_unit<L: Ledger>(
     requires readable { is_readable_unit unit.now ≡ true }
     requires rows { has_table_rows checked.old.table ≡ true }
     ensures table { OnOk result (checked.new.table ≡ with_unit checked.old.table (plain_unit unit.now)) }
+    ensures rows { OnOk result (has_table_rows checked.new.table ≡ true) }
+{
+    check_theorems(alloc, unit, checked, steps)?;
+    push_idle_rows(alloc, unit, &mut checked.table.rows)
+}
+
+/// Judges a unit over those before it, and adds the rows of its theorems.
+fn check_theorems<L: Ledger>(
+    alloc: Global,
+    unit: &Unit,
+    checked: &mut Checked,
+    steps: &mut Steps<L>,
+) -> Result<(), NoMemory>
+    requires readable { is_readable_unit unit.now ≡ true }
+    requires rows { has_table_rows checked.old.table ≡ true }
+    ensures table { OnOk result (checked.new.table ≡ with_theorems checked.old.table (plain_unit unit.now)) }
     ensures rows { OnOk result (has_table_rows checked.new.table ≡ true) }
 {
     match flatten(alloc, unit, &checked.flats, steps) {
@@ -101,11 +118,12 @@ fn push_rows<L: Ledger>(
     steps: &mut Steps<L>,
 ) -> Result<(), NoMemory>
     requires { list_all has_row_rows rows.old ≡ true }
-    ensures added { OnOk result (rows.new ≡ rows.old ++ rows_where (plain_unit unit.now) (Ok flat.now.sig)) }
+    ensures added { OnOk result (rows.new ≡ rows.old ++ theorem_rows (plain_unit unit.now) (Ok flat.now.sig)) }
     ensures rows { OnOk result (list_all has_row_rows rows.new ≡ true) }
 {
+    let proofs = proofs_by_name(alloc, unit.proofs.items())?;
     for theorem in unit.theorems.items() {
-        rows.push(row(alloc, &unit.name, flat, unit.proofs.items(), theorem, steps)?)?;
+        rows.push(row(alloc, unit, flat, &proofs, theorem, steps)?)?;
     }
     Ok(())
 }
@@ -119,6 +137,22 @@ fn push_ill_rows(alloc: Global, unit: &Unit, rows: &mut List<Row>) -> Result<(),
     for theorem in unit.theorems.items() {
         let reason = bare(alloc, reason::UNIT);
         rows.push(ill_row(alloc, &unit.name, &theorem.name, reason)?)?;
+    }
+    Ok(())
+}
+
+/// Adds the rows of the idle proofs of a unit.
+fn push_idle_rows(alloc: Global, unit: &Unit, rows: &mut List<Row>) -> Result<(), NoMemory>
+    requires { list_all has_row_rows rows.old ≡ true }
+    ensures added { OnOk result (rows.new ≡ rows.old ++ idle_rows (plain_unit unit.now)) }
+    ensures rows { OnOk result (list_all has_row_rows rows.new ≡ true) }
+{
+    let theorems = theorem_names(alloc, unit.theorems.items())?;
+    for proof in unit.proofs.items() {
+        if theorems.contains(proof.name.bytes()) {
+            continue;
+        }
+        rows.push(idle_row(alloc, &unit.name, proof)?)?;
     }
     Ok(())
 }

@@ -2,9 +2,13 @@
 #![tactic(auto)]
 
 mod checking;
+mod indexes;
 mod laws;
 mod reasons;
 mod rows;
 
 pub use checking::check;
 pub use laws::backing;
+
+#[cfg(test)]
+mod tests;

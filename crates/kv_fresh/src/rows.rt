@@ -1,18 +1,16 @@
-// The row of a theorem.
+// The rows of theorems and of idle proofs.
 
-ghost use Rattle.std.specs.Prelude.{◌≡◌, true, map, None, Ok, Err, IfOk, IfErr};
-ghost use Rattle.std.specs.List.{find};
-ghost use Rattle.std.specs.Option.{option_map};
-ghost use Rattle.std.specs.Str.{bytes_eq};
+ghost use Rattle.std.specs.Prelude.{◌≡◌, true, map, Ok, IfOk, IfErr};
 ghost use Rattle.kv_fresh.specs.Goals.{GoalIs};
-ghost use Rattle.kv_fresh.specs.States.{goal_of, ill_row, nothing_around, replayed_row, row_of, script_of, shown, small_goal};
+ghost use Rattle.kv_fresh.specs.Indexes.{LeadsToFirst, told};
+ghost use Rattle.kv_fresh.specs.States.{goal_of, idle_row, ill_row, nothing_around, replayed_row, row_of, script_or_open, shown, small_goal};
 ghost use Rattle.kv_script.specs.Events.{outcome_of, replay_events};
 ghost use Rattle.kv_syn.specs.Bridge.{plain_form};
 ghost use Rattle.kv_syn.specs.ProjectBridge.{plain_proof, plain_theorem};
-ghost use Rattle.kv_syn.specs.Projects as P;
 ghost use Rattle.kv_syn.specs.Rows.{has_fault_rows, has_reason_row, has_row_rows, has_state_rows};
 ghost use Rattle.kv_syn.specs.ScriptBridge.{plain_script};
 
+use crate::indexes::proof_named;
 use crate::reasons::{bare, typing_reason};
 use kv_elab::{Context, elaborate};
 use kv_prop::{SEQUENT_DEPTH, SEQUENT_NODES};
@@ -20,30 +18,33 @@ use kv_script::replay;
 use kv_sig::{Env, Flat};
 use kv_syn::{
     Form, Label, List, Name, NoMemory, Outcome, Plain, Proof, Reason, Row, Script, State, Steps,
-    Theorem,
+    Theorem, Unit,
 };
 use kv_table::reason;
 use std::alloc::Global;
+use std::collections::HashMap;
 use std::sync::ledger::Ledger;
 
-/// A theorem's row: its state, and the outcome of its proof where it can be asked for.
+/// A theorem's row: its state, and the outcome of its proof where it can be asked for. The proofs of its unit are
+/// given by name.
 pub fn row<L: Ledger>(
     alloc: Global,
-    unit: &Name,
+    unit: &Unit,
     flat: &Flat,
-    proofs: &[Proof],
+    proofs: &HashMap<&[u8], &Proof>,
     theorem: &Theorem,
     steps: &mut Steps<L>,
 ) -> Result<Row, NoMemory>
-    ensures row { IfOk result (λ row. row ≡ row_of unit.now flat.now.sig (map plain_proof proofs.now) (plain_theorem theorem.now)) }
+    requires { LeadsToFirst (map plain_proof unit.now.proofs) proofs.now }
+    ensures row { IfOk result (λ row. row ≡ row_of unit.now.name flat.now.sig (map plain_proof unit.now.proofs) (plain_theorem theorem.now)) }
     ensures rows { IfOk result (λ row. has_row_rows row ≡ true) }
 {
     match goal_of(alloc, flat, theorem)? {
         Ok(goal) => {
             let outcome = replayed(alloc, flat, &goal, proofs, &theorem.name, steps)?;
-            replayed_row(alloc, unit, &theorem.name, outcome)
+            replayed_row(alloc, &unit.name, &theorem.name, outcome)
         }
-        Err(reason) => ill_row(alloc, unit, &theorem.name, reason),
+        Err(reason) => ill_row(alloc, &unit.name, &theorem.name, reason),
     }
 }
 
@@ -57,6 +58,19 @@ pub fn ill_row(alloc: Global, unit: &Name, theorem: &Name, reason: Reason) -> Re
         unit: unit.copy(alloc)?,
         name: Label::from_bytes(alloc, theorem.bytes())?,
         state: State::Ill(reason),
+        outcome: None,
+    })
+}
+
+/// The row of an idle proof.
+pub fn idle_row(alloc: Global, unit: &Name, proof: &Proof) -> Result<Row, NoMemory>
+    ensures row { IfOk result (λ row. row ≡ idle_row unit.now (plain_proof proof.now)) }
+    ensures rows { IfOk result (λ row. has_row_rows row ≡ true) }
+{
+    Ok(Row {
+        unit: unit.copy(alloc)?,
+        name: proof.name.copy(alloc)?,
+        state: State::Idle,
         outcome: None,
     })
 }
@@ -120,11 +134,11 @@ fn replayed<L: Ledger>(
     alloc: Global,
     flat: &Flat,
     goal: &Form,
-    proofs: &[Proof],
+    proofs: &HashMap<&[u8], &Proof>,
     name: &Name,
     steps: &mut Steps<L>,
 ) -> Result<Outcome, NoMemory>
-    ensures outcome { IfOk result (λ outcome. outcome ≡ outcome_of (replay_events (plain_form goal.now) (script_of (map plain_proof proofs.now) name.now))) }
+    ensures outcome { IfOk result (λ outcome. outcome ≡ outcome_of (replay_events (plain_form goal.now) (script_or_open (told proofs.now name.now)))) }
     ensures rows { IfOk result (λ outcome. has_fault_rows outcome.broken ≡ true) }
 {
     let env = Env { flat, before: 0 };
@@ -132,18 +146,6 @@ fn replayed<L: Ledger>(
         Some(proof) => replay(alloc, &env, goal, &proof.script, steps),
         None => replay(alloc, &env, goal, &Script::Hole, steps),
     }
-}
-
-/// The first proof of that name.
-fn proof_named<'a>(proofs: &'a [Proof], name: &Name) -> Option<&'a Proof>
-    ensures { option_map (λ proof. plain_proof proof.now) result ≡ find (λ (proof : P.Proof). bytes_eq proof.name name.now) (map plain_proof proofs.now) }
-{
-    for proof in proofs {
-        if proof.name.bytes() == name.bytes() {
-            return Some(proof);
-        }
-    }
-    None
 }
 
 /// The state that the replay of a proof shows.

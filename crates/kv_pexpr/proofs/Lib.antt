@@ -3,6 +3,8 @@ pub mod Sound
 pub mod Exact
 pub mod Longest
 pub mod One
+pub mod Fronts
 pub mod Turns
+pub mod Chain
 pub mod Behind
 pub mod Places

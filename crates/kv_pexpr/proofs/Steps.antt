@@ -4,7 +4,7 @@ use Rattle.std.specs.Prelude.{cond, ◌==◌, Option, Some, None, ◌⊎◌, nat
 use Rattle.std.proofs.lemmas.Bool.Decides.{leb_tells, eqb_tells}
 use Rattle.kv_lex.specs.declared.token.TokenKind.{TokenKind}
 use Rattle.kv_lex.specs.declared.token.TokenKind.TheVariants.{Word, Ident, Number, Mark}
-use Rattle.kv_pexpr.specs.Parse.{Read, given, or_stay, behind, eat_mark, eat_name}
+use Rattle.kv_pexpr.specs.Parse.{Read, given, or_stay, behind, eat_mark, eat_word, eat_name}
 
 pub some_is : {A : Type 0} {x y : A} → Some x ≡ Some y → x ≡ y
 some_is e = cc
@@ -36,6 +36,13 @@ mark_some m (Word w ∷ ts) us e = cc
 mark_some m (Ident n ∷ ts) us e = cc
 mark_some m (Number n ∷ ts) us e = cc
 mark_some m (Mark k ∷ ts) us e = let f = if_some k m ts e in cc (f.0, f.1)
+
+pub word_some : (w : ℕ) (ts us : List TokenKind) → eat_word w ts ≡ Some us → ts ≡ Word w ∷ us
+word_some w [] us e = cc
+word_some w (Word k ∷ ts) us e = let f = if_some k w ts e in cc (f.0, f.1)
+word_some w (Ident n ∷ ts) us e = cc
+word_some w (Number n ∷ ts) us e = cc
+word_some w (Mark k ∷ ts) us e = cc
 
 pub name_some : (ts : List TokenKind) (r : List ℕ × List TokenKind) → eat_name ts ≡ Some r → ts ≡ Ident r.0 ∷ r.1
 name_some [] r e = cc

@@ -2,18 +2,25 @@
 -- pairs of brackets stand open around one place, and us are the tokens behind it.
 use Rattle.std.specs.Prelude.{ℕ, suc, List, ◌∷◌, ◌≤◌, ◌≢◌}
 use Rattle.kv_lex.specs.declared.token.TokenKind.{TokenKind}
-use Rattle.kv_lex.specs.declared.token.TokenKind.TheVariants.{Ident, Mark}
+use Rattle.kv_lex.specs.declared.token.TokenKind.TheVariants.{Word, Ident, Mark}
 use Rattle.kv_lex.specs.declared.mark.TheConstants.{OPEN, CLOSE, ARROW}
+use Rattle.kv_table.specs.declared.keyword.TheConstants.{AND}
 use Rattle.kv_syn.specs.Trees.{Name}
 use Rattle.kv_syn.specs.RawTrees.{RawForm, RawTerms}
 use Rattle.kv_syn.specs.RawCount.{raw_form_depth}
 
 mutual
-  -- imp = una ["->" imp]
+  -- imp = con ["->" imp]
   pub data IsImp : ℕ → List TokenKind → RawForm → List TokenKind → Type 0 where
-    una : {d : ℕ} {ts us : List TokenKind} {p : RawForm} → IsUna d ts p us → IsImp d ts p us
+    con : {d : ℕ} {ts us : List TokenKind} {p : RawForm} → IsCon d ts p us → IsImp d ts p us
     arrow : {d : ℕ} {ts us vs : List TokenKind} {p q : RawForm}
-        → IsUna d ts p (Mark ARROW ∷ us) → IsImp d us q vs → IsImp d ts (RawForm.Imp p q) vs
+        → IsCon d ts p (Mark ARROW ∷ us) → IsImp d us q vs → IsImp d ts (RawForm.Imp p q) vs
+
+  -- con = una { "and" una }, to the left
+  pub data IsCon : ℕ → List TokenKind → RawForm → List TokenKind → Type 0 where
+    una : {d : ℕ} {ts us : List TokenKind} {p : RawForm} → IsUna d ts p us → IsCon d ts p us
+    and : {d : ℕ} {ts us vs : List TokenKind} {p q : RawForm}
+        → IsCon d ts p (Word AND ∷ us) → IsUna d us q vs → IsCon d ts (RawForm.And p q) vs
 
   -- una = name | "(" imp ")"
   pub data IsUna : ℕ → List TokenKind → RawForm → List TokenKind → Type 0 where
@@ -32,6 +39,6 @@ open_brackets = 150
 abbrev pub ReadsForm : List TokenKind → RawForm → List TokenKind → Type 0
 ReadsForm ts p us = IsImp open_brackets ts p us × (raw_form_depth p ≤ tree_height)
 
--- no arrow comes first
-abbrev pub NoArrow : List TokenKind → Type 0
-NoArrow ts = (us : List TokenKind) → ts ≢ Mark ARROW ∷ us
+-- a formula can't go on there: neither an arrow nor "and" comes first
+abbrev pub Stops : List TokenKind → Type 0
+Stops ts = (us : List TokenKind) → (ts ≢ Mark ARROW ∷ us) × (ts ≢ Word AND ∷ us)

@@ -8,15 +8,15 @@ use Rattle.kv_syn.specs.declared.raws.RawForm.{RawForm}
 use Rattle.kv_pexpr.specs.declared.errors.ReadError.{ReadError}
 use Rattle.kv_pexpr.specs.declared.errors.ReadError.TheVariants.{Syntax, NoMemory}
 use Rattle.kv_pexpr.specs.Gives.{kinds}
-use Rattle.kv_pexpr.specs.Grammar.{ReadsForm, NoArrow}
+use Rattle.kv_pexpr.specs.Grammar.{ReadsForm, Stops}
 
 -- two readings that leave the same tokens behind them are one tree
 abbrev pub OneTree : Type 0
 OneTree = (ts us : List TokenKind) (p q : P.RawForm) → ReadsForm ts p us → ReadsForm ts q us → p ≡ q
 
--- two readings behind which no arrow stands are one
+-- two readings behind which no formula can go on are one
 abbrev pub OneReading : Type 0
-OneReading = (ts us vs : List TokenKind) (p q : P.RawForm) → ReadsForm ts p us → ReadsForm ts q vs → NoArrow us → NoArrow vs → (p ≡ q) × (us ≡ vs)
+OneReading = (ts us vs : List TokenKind) (p q : P.RawForm) → ReadsForm ts p us → ReadsForm ts q vs → Stops us → Stops vs → (p ≡ q) × (us ≡ vs)
 
 -- no reading of the tokens at the place reaches further than the one that was found; where none was found, there is none
 abbrev pub IsLongest : List Token → ℕ → Result (RawForm × ℕ) ReadError → Type 0
@@ -30,6 +30,6 @@ IsFound tokens p us (Ok found) = (raw_form found.0 ≡ p) × (kinds (drop found.
 IsFound tokens p us (Err Syntax) = ⊥
 IsFound tokens p us (Err NoMemory) = Unit {0}
 
--- a reading of the tokens at the place, behind which no arrow stands, is the one that was found
+-- a reading of the tokens at the place, behind which no formula can go on, is the one that was found
 abbrev pub IsOnly : List Token → ℕ → Result (RawForm × ℕ) ReadError → Type 0
-IsOnly tokens at result = (p : P.RawForm) (us : List TokenKind) → ReadsForm (kinds (drop at tokens)) p us → NoArrow us → IsFound tokens p us result
+IsOnly tokens at result = (p : P.RawForm) (us : List TokenKind) → ReadsForm (kinds (drop at tokens)) p us → Stops us → IsFound tokens p us result

@@ -13,9 +13,10 @@ ghost use Rattle.kv_pexpr.specs.Readings.{OneTree, OneReading, IsLongest, IsOnly
 
 use crate::errors::ReadError;
 use crate::found::Found;
-use crate::tokens::{eat_mark, eat_name};
+use crate::tokens::{eat_mark, eat_name, eat_word};
 use kv_lex::{Token, TokenKind, mark};
 use kv_syn::{List, NoMemory, RawForm, boxed};
+use kv_table::keyword;
 use std::alloc::Global;
 
 /// How high a tree of a text may be.
@@ -30,8 +31,10 @@ const FUEL: u32 = 300;
 /// The rules that others call.
 #[derive(Clone, Copy, Debug, PartialEq, Eq)]
 pub enum Level {
-    /// `imp = una ["->" imp]`
+    /// `imp = con ["->" imp]`
     Imp,
+    /// `con = una { "and" una }`
+    Con,
     /// `una = name | "(" imp ")"`
     Una,
 }
@@ -108,6 +111,60 @@ impl<
         }
     }
 
+    /// Conjuncts to the right of what was read, while `and` comes and a formula behind it reads.
+    fn ands<'a>(
+        &self,
+        first: Found<'a, RawForm>,
+        brackets: u32,
+        height: u32,
+    ) -> Result<Found<'a, RawForm>, ReadError>
+        requires nests { Nests self.now.fuel (F.pre self.now.read) (F.post self.now.read) }
+        requires small { (0 < height) × (height < 1000) }
+        requires high { (raw_form_depth (raw_form first.tree) ≡ first.height) × (first.height ≤ height) }
+        ensures reads { Gives seen result (spec.ands (spec.read self.now.fuel Level.Una brackets (height - 1)) (height - 1) height (raw_form first.entry.tree) (kinds first.entry.rest.now)) }
+        ensures high { IsHigh height result }
+    {
+        let mut left = first;
+        for _turn in 0..height {
+            if left.height >= height {
+                return Ok(left);
+            }
+            let Some(after) = eat_word(left.rest, keyword::AND) else {
+                return Ok(left);
+            };
+            match self.nested(after, Level::Una, brackets, height - 1) {
+                Ok(right) => {
+                    left = Found {
+                        height: left.height.max(right.height) + 1,
+                        tree: conjunction(self.alloc, left.tree, right.tree)?,
+                        rest: right.rest,
+                    };
+                }
+                Err(ReadError::NoMemory) => return Err(ReadError::NoMemory),
+                Err(ReadError::Syntax) => return Ok(left),
+            }
+        }
+        Ok(left)
+    }
+
+    fn con<'a>(
+        &self,
+        tokens: &'a [Token],
+        brackets: u32,
+        height: u32,
+    ) -> Result<Found<'a, RawForm>, ReadError>
+        requires nests { Nests self.now.fuel (F.pre self.now.read) (F.post self.now.read) }
+        requires small { height < 1000 }
+        ensures reads { Gives seen result (spec.con_rule (spec.read self.now.fuel) brackets height (kinds tokens.now)) }
+        ensures high { IsHigh height result }
+    {
+        if height == 0 {
+            return Err(ReadError::Syntax);
+        }
+        let first = self.una(tokens, brackets, height)?;
+        self.ands(first, brackets, height)
+    }
+
     fn imp<'a>(
         &self,
         tokens: &'a [Token],
@@ -122,7 +179,7 @@ impl<
         if height == 0 {
             return Err(ReadError::Syntax);
         }
-        let left = self.una(tokens, brackets, height)?;
+        let left = self.con(tokens, brackets, height)?;
         if left.height < height
             && let Some(after) = eat_mark(left.rest, mark::ARROW)
         {
@@ -140,6 +197,14 @@ impl<
         }
         Ok(left)
     }
+}
+
+/// The conjunction of the two.
+fn conjunction(alloc: Global, left: RawForm, right: RawForm) -> Result<RawForm, NoMemory>
+    ensures { IfOk result (λ form. raw_form form ≡ RawTree.And (raw_form left) (raw_form right)) }
+{
+    let left = boxed(alloc, left)?;
+    Ok(RawForm::And(left, boxed(alloc, right)?))
 }
 
 /// The implication of the two.
@@ -186,6 +251,7 @@ fn read(
     };
     match level {
         Level::Imp => grammar.imp(tokens, brackets, height),
+        Level::Con => grammar.con(tokens, brackets, height),
         Level::Una => grammar.una(tokens, brackets, height),
     }
 }
@@ -193,8 +259,9 @@ fn read(
 /// The longest formula that begins at a place of the tokens, and the place behind it.
 ///
 /// A formula is a tree of at most 150 levels, and no place in it stands inside more than 150 pairs of brackets. An
-/// arrow that no formula follows within these limits is left unread. `Syntax` comes exactly where no formula
-/// begins there. A formula behind which no arrow stands, as one that takes all the tokens, is the one that is found.
+/// arrow or an `and` that no formula follows within these limits is left unread. `Syntax` comes exactly where no formula
+/// begins there. A formula behind which neither an arrow nor `and` stands, as one that takes all the tokens, is the one
+/// that is found.
 pub fn formula(alloc: Global, tokens: &[Token], at: usize) -> Result<(RawForm, usize), ReadError>
     requires { at ≤ length tokens.now }
     ensures found { IfOk result (λ found. ReadsForm (kinds (drop at tokens.now)) (raw_form found.0) (kinds (drop found.1 tokens.now))) }
@@ -216,7 +283,7 @@ fn longest(alloc: Global, tokens: &[Token]) -> Result<Found<'_, RawForm>, ReadEr
 }
 
 /// One text is one formula: two readings of the same tokens are one tree where they leave the same tokens behind them,
-/// and are one altogether where no arrow stands behind either.
+/// and are one altogether where neither an arrow nor `and` stands behind either.
 pub fn one_reading()
     ensures tree { OneTree }
     ensures whole { OneReading }

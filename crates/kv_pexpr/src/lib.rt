@@ -1,4 +1,4 @@
-//! Readers of formulas, over tokens.
+//! Readers of formulas, over tokens, and of the first of some tokens.
 #![tactic(auto)]
 
 mod errors;
@@ -10,3 +10,4 @@ mod tokens;
 
 pub use errors::ReadError;
 pub use grammar::{formula, one_reading};
+pub use tokens::{eat_mark, eat_name, eat_word};

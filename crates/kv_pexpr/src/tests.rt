@@ -3,11 +3,12 @@
 use crate::{ReadError, formula, one_reading};
 use kv_lex::{Token, TokenKind, mark};
 use kv_syn::{List, Name, NoMemory, RawForm};
+use kv_table::keyword;
 use std::alloc::Global;
 use std::fmt::{self, Write};
 use std::test::Fail;
 
-/// A token for each letter: `>` is the arrow, `1` a number, `!` a keyword.
+/// A token for each letter: `>` is the arrow, `&` the keyword `and`, `1` a number, `!` another keyword.
 fn spelled(alloc: Global, text: &str) -> Result<List<Token>, NoMemory> {
     let mut tokens = List::new(alloc);
     for (place, byte) in text.as_bytes().iter().enumerate() {
@@ -18,6 +19,7 @@ fn spelled(alloc: Global, text: &str) -> Result<List<Token>, NoMemory> {
             b',' => TokenKind::Mark(mark::COMMA),
             b'>' => TokenKind::Mark(mark::ARROW),
             b'1' => TokenKind::Number(1),
+            b'&' => TokenKind::Word(keyword::AND),
             b'!' => TokenKind::Word(0),
             name => TokenKind::Ident(Name::from_bytes(alloc, &[name])?),
         };
@@ -30,10 +32,17 @@ fn spelled(alloc: Global, text: &str) -> Result<List<Token>, NoMemory> {
     Ok(tokens)
 }
 
-/// The formula with each implication in square brackets.
+/// The formula with each implication and each conjunction in square brackets.
 fn write_form(form: &RawForm, out: &mut String) -> Result<(), fmt::Error> {
     match form {
         RawForm::Atom(name, _) => write!(out, "{}", str::from_utf8(name.bytes()).unwrap_or("?"))?,
+        RawForm::And(left, right) => {
+            write!(out, "[")?;
+            write_form(left.get(), out)?;
+            write!(out, "&")?;
+            write_form(right.get(), out)?;
+            write!(out, "]")?;
+        }
         RawForm::Imp(premise, conclusion) => {
             write!(out, "[")?;
             write_form(premise.get(), out)?;
@@ -90,6 +99,27 @@ fn texts_and_formulas(rt: HostRuntime) -> Result<(), Fail> {
         ("[a", 0, "syntax"),
         ("1", 0, "syntax"),
         ("!", 0, "syntax"),
+        ("a&b", 0, "[a&b] 3"),
+        ("a&b&c", 0, "[[a&b]&c] 5"),
+        ("a&(b&c)", 0, "[a&[b&c]] 7"),
+        ("(a&b)&c", 0, "[[a&b]&c] 7"),
+        ("a&b>c", 0, "[[a&b]>c] 5"),
+        ("a>b&c", 0, "[a>[b&c]] 5"),
+        ("a&b>c&d>e", 0, "[[a&b]>[[c&d]>e]] 9"),
+        ("(a>b)&c", 0, "[[a>b]&c] 7"),
+        ("a&(b>c)", 0, "[a&[b>c]] 7"),
+        ("a&", 0, "a 1"),
+        ("a&b&", 0, "[a&b] 3"),
+        ("a&b>", 0, "[a&b] 3"),
+        ("a>b&", 0, "[a>b] 3"),
+        ("a&>b", 0, "a 1"),
+        ("a&(b", 0, "a 1"),
+        ("a&b!c", 0, "[a&b] 3"),
+        ("a!b", 0, "a 1"),
+        ("(a&b", 0, "syntax"),
+        ("(a&)", 0, "syntax"),
+        ("&a", 0, "syntax"),
+        ("&", 0, "syntax"),
     ];
     for (i, (text, at, want)) in cases.iter().enumerate() {
         let tokens = spelled(rt.alloc(), text)?;
@@ -141,6 +171,20 @@ fn brackets_and_heights(rt: HostRuntime) -> Result<(), Fail> {
         ("", "(", ">a)", 150, Err(ReadError::Syntax)),
         ("b>", "(", ">a)", 148, Ok(595)),
         ("b>", "(", ">a)", 149, Ok(1)),
+        ("", "a&", "", 149, Ok(299)),
+        ("", "a&", "", 150, Ok(299)),
+        ("", "a&", "", 151, Ok(299)),
+        ("", "a&", "", 200, Ok(299)),
+        ("b>", "a&", "", 148, Ok(299)),
+        ("b>", "a&", "", 149, Ok(299)),
+        ("", "a&", ">b", 148, Ok(593)),
+        ("", "a&", ">b", 149, Ok(299)),
+        ("", "(", "&a)", 149, Ok(597)),
+        ("", "(", "&a)", 150, Err(ReadError::Syntax)),
+        ("b&", "(", "&a)", 148, Ok(595)),
+        ("b&", "(", "&a)", 149, Ok(1)),
+        ("a&", "(", ")", 150, Ok(303)),
+        ("a&", "(", ")", 151, Ok(1)),
     ];
     for (i, (front, middle, end, count, want)) in cases.iter().enumerate() {
         let text = repeated(rt.alloc(), front, middle, end, *count)?;

@@ -21,6 +21,17 @@ pub fn eat_mark(tokens: &[Token], mark: u32) -> Option<&[Token]>
     }
 }
 
+/// The tokens behind the keyword, if it comes first.
+pub fn eat_word(tokens: &[Token], word: u32) -> Option<&[Token]>
+    ensures { option_map (λ rest. kinds rest.now) result ≡ spec.eat_word word (kinds tokens.now) }
+{
+    let (first, rest) = tokens.split_first()?;
+    match &first.kind {
+        TokenKind::Word(w) if *w == word => Some(rest),
+        _ => None,
+    }
+}
+
 /// A copy of the name that comes first, and the tokens behind it.
 pub fn eat_name(alloc: Global, tokens: &[Token]) -> Result<(Name, &[Token]), ReadError>
     ensures { Gives (λ found. (found.0, kinds found.1.now)) result (spec.eat_name (kinds tokens.now)) }

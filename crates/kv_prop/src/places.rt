@@ -1,7 +1,7 @@
 // Places of formulas in a sequent's side, counted from 1.
 
-ghost use Rattle.std.specs.Prelude.{◌≡◌, ◌≤◌, ◌++◌, ◌∷◌, [], map, length, IfOk};
-ghost use Rattle.kv_sig.specs.Places.{with_item};
+ghost use Rattle.std.specs.Prelude.{◌≡◌, ◌≤◌, ◌++◌, ◌∷◌, [], map, length, IfOk, OnOk};
+ghost use Rattle.kv_sig.specs.Places.{with_item, with_items, without_item};
 ghost use Rattle.kv_prop.specs.Premises.{form_at, Gives};
 ghost use Rattle.kv_syn.specs.Bridge.{plain_form};
 ghost use Rattle.kv_syn.specs.Same.{form_eq};
@@ -12,7 +12,8 @@ use std::alloc::Global;
 
 /// The formula at a place.
 pub fn at(forms: &[Form], place: u32) -> Result<&Form, StepError>
-    ensures { Gives (λ form. plain_form form.now) result (form_at (map plain_form forms.now) place) }
+    ensures answer { Gives (λ form. plain_form form.now) result (form_at (map plain_form forms.now) place) }
+    ensures within { IfOk result (λ form. place ≤ length forms.now) }
 {
     if place == 0 {
         return Err(StepError::Position);
@@ -48,6 +49,50 @@ pub fn copies_with(
         copies.push(kept.copy(alloc)?)?;
     }
     Ok(copies)
+}
+
+/// Copies of the formulas, with two others in place of one of them.
+pub fn copies_with_two(
+    alloc: Global,
+    forms: &[Form],
+    place: u32,
+    one: &Form,
+    two: &Form,
+) -> Result<List<Form>, NoMemory>
+    requires low { 1 ≤ place }
+    requires high { place ≤ length forms.now }
+    ensures { IfOk result (λ copies. map plain_form copies ≡ with_items (map plain_form forms.now) place (plain_form one.now ∷ plain_form two.now ∷ [])) }
+{
+    let place = place as usize;
+    let mut copies = List::new(alloc);
+    push_copies(alloc, &mut copies, &forms[..place - 1])?;
+    copies.push(one.copy(alloc)?)?;
+    copies.push(two.copy(alloc)?)?;
+    push_copies(alloc, &mut copies, &forms[place..])?;
+    Ok(copies)
+}
+
+/// Copies of the formulas without one of them.
+pub fn copies_without(alloc: Global, forms: &[Form], place: u32) -> Result<List<Form>, NoMemory>
+    requires low { 1 ≤ place }
+    requires high { place ≤ length forms.now }
+    ensures { IfOk result (λ copies. map plain_form copies ≡ without_item (map plain_form forms.now) place) }
+{
+    let place = place as usize;
+    let mut copies = List::new(alloc);
+    push_copies(alloc, &mut copies, &forms[..place - 1])?;
+    push_copies(alloc, &mut copies, &forms[place..])?;
+    Ok(copies)
+}
+
+/// Adds copies of the formulas at the end.
+fn push_copies(alloc: Global, copies: &mut List<Form>, forms: &[Form]) -> Result<(), NoMemory>
+    ensures { OnOk result (copies.new ≡ copies.old ++ forms.now) }
+{
+    for form in forms {
+        copies.push(form.copy(alloc)?)?;
+    }
+    Ok(())
 }
 
 /// Whether two formulas are equal.

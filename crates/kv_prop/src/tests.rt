@@ -1,4 +1,5 @@
-// Steps at sequents that are spelled letter by letter: a letter is a predicate, and `>` joins the two before it.
+// Steps at sequents that are spelled letter by letter: a letter is a predicate, and `>` and `&` join the
+// two formulas before them.
 
 use crate::{SEQUENT_DEPTH, apply};
 use kv_sig::{Env, Flat, Sig, StepError};
@@ -11,10 +12,14 @@ use std::test::Fail;
 fn form(alloc: Global, text: &str) -> Result<Form, NoMemory> {
     let mut forms = List::new(alloc);
     for letter in text.as_bytes() {
-        let form = if *letter == b'>' {
-            let conclusion = forms.pop().unwrap_or(Form::False);
-            let premise = forms.pop().unwrap_or(Form::False);
-            Form::Imp(boxed(alloc, premise)?, boxed(alloc, conclusion)?)
+        let form = if *letter == b'>' || *letter == b'&' {
+            let second = boxed(alloc, forms.pop().unwrap_or(Form::False))?;
+            let first = boxed(alloc, forms.pop().unwrap_or(Form::False))?;
+            if *letter == b'>' {
+                Form::Imp(first, second)
+            } else {
+                Form::And(first, second)
+            }
         } else {
             Form::Atom(Name::from_bytes(alloc, &[*letter])?, List::new(alloc))
         };
@@ -84,34 +89,44 @@ fn word(outcome: Result<List<Sequent>, StepError>) -> &'static str {
 #[test]
 fn premises_of_steps(rt: HostRuntime) -> Result<(), Fail> {
     let alloc = rt.alloc();
-    let cases: [(u32, &[u32], (&str, &str), Option<(&str, &str)>); 6] = [
-        (rule::CLOSE, &[1, 1], ("a", "a"), None),
-        (rule::CLOSE, &[2, 3], ("a bc>", "d a bc>"), None),
-        (rule::IMP_R, &[1], ("", "ab>"), Some(("a", "b"))),
+    let cases: [(u32, &[u32], (&str, &str), &[(&str, &str)]); 14] = [
+        (rule::CLOSE, &[1, 1], ("a", "a"), &[]),
+        (rule::CLOSE, &[2, 3], ("a bc>", "d a bc>"), &[]),
+        (rule::AND_L, &[1], ("ab&", ""), &[("a b", "")]),
+        (rule::AND_L, &[2], ("c ab& d", "e"), &[("c a b d", "e")]),
+        (rule::AND_L, &[1], ("abc&& ab&", ""), &[("a bc& ab&", "")]),
+        (rule::AND_R, &[1], ("", "ab&"), &[("", "a"), ("", "b")]),
         (
-            rule::IMP_R,
+            rule::AND_R,
             &[2],
-            ("c d", "e ab> f"),
-            Some(("c d a", "e b f")),
+            ("c", "d ab& e"),
+            &[("c", "d a e"), ("c", "d b e")],
+        ),
+        (rule::IMP_L, &[1], ("ab>", "c"), &[("", "c a"), ("b", "c")]),
+        (
+            rule::IMP_L,
+            &[2],
+            ("c ab> d", "e f"),
+            &[("c d", "e f a"), ("c b d", "e f")],
         ),
         (
-            rule::IMP_R,
-            &[1],
-            ("ab>", "ab> ab>"),
-            Some(("ab> a", "b ab>")),
+            rule::IMP_L,
+            &[3],
+            ("ab> c ab>", ""),
+            &[("ab> c", "a"), ("ab> c b", "")],
         ),
-        (rule::IMP_R, &[1], ("", "abc>>"), Some(("a", "bc>"))),
+        (rule::IMP_R, &[1], ("", "ab>"), &[("a", "b")]),
+        (rule::IMP_R, &[2], ("c d", "e ab> f"), &[("c d a", "e b f")]),
+        (rule::IMP_R, &[1], ("ab>", "ab> ab>"), &[("ab> a", "b ab>")]),
+        (rule::IMP_R, &[1], ("", "abc>>"), &[("a", "bc>")]),
     ];
     for (i, (rule, numbers, before, after)) in cases.iter().enumerate() {
         let premises = applied(alloc, &sequent(alloc, *before)?, *rule, *numbers)?;
-        match after {
-            None => assert!(rt; premises.items().is_empty(), "case {i}"),
-            Some(after) => {
-                let mut wanted = List::new(alloc);
-                wanted.push(sequent(alloc, *after)?)?;
-                assert!(rt; premises.same(&wanted), "case {i}");
-            }
+        let mut wanted = List::new(alloc);
+        for premise in after.iter() {
+            wanted.push(sequent(alloc, *premise)?)?;
         }
+        assert!(rt; premises.same(&wanted), "case {i}");
     }
     Ok(())
 }
@@ -119,7 +134,7 @@ fn premises_of_steps(rt: HostRuntime) -> Result<(), Fail> {
 #[test]
 fn refused_steps(rt: HostRuntime) -> Result<(), Fail> {
     let alloc = rt.alloc();
-    let cases: [(u32, &[u32], (&str, &str), &str); 14] = [
+    let cases: [(u32, &[u32], (&str, &str), &str); 27] = [
         (rule::CLOSE, &[0, 1], ("a", "a"), "position"),
         (rule::CLOSE, &[1, 0], ("a", "a"), "position"),
         (rule::CLOSE, &[2, 1], ("a", "a"), "position"),
@@ -133,7 +148,20 @@ fn refused_steps(rt: HostRuntime) -> Result<(), Fail> {
         (rule::IMP_R, &[2], ("ab> ab>", "ab>"), "position"),
         (rule::IMP_R, &[1], ("ab>", "a"), "shape"),
         (rule::IMP_R, &[1, 1], ("", "ab>"), "shape"),
-        (rule::IMP_L, &[1], ("ab>", "a"), "shape"),
+        (rule::AND_L, &[0], ("ab&", ""), "position"),
+        (rule::AND_L, &[2], ("ab&", "ab& ab&"), "position"),
+        (rule::AND_L, &[1], ("ab>", "ab&"), "shape"),
+        (rule::AND_L, &[], ("ab&", ""), "shape"),
+        (rule::AND_L, &[1, 1], ("ab&", ""), "shape"),
+        (rule::AND_R, &[0], ("", "ab&"), "position"),
+        (rule::AND_R, &[2], ("ab& ab&", "ab&"), "position"),
+        (rule::AND_R, &[1], ("ab&", "ab>"), "shape"),
+        (rule::AND_R, &[1, 1], ("", "ab&"), "shape"),
+        (rule::IMP_L, &[0], ("ab>", ""), "position"),
+        (rule::IMP_L, &[2], ("ab>", "ab> ab>"), "position"),
+        (rule::IMP_L, &[1], ("ab&", "ab>"), "shape"),
+        (rule::IMP_L, &[1, 1], ("ab>", ""), "shape"),
+        (rule::OR_L, &[1], ("ab>", "a"), "shape"),
     ];
     for (i, (rule, numbers, before, wanted)) in cases.iter().enumerate() {
         let outcome = applied(alloc, &sequent(alloc, *before)?, *rule, *numbers);
@@ -187,6 +215,44 @@ fn nodes_of_premises(rt: HostRuntime) -> Result<(), Fail> {
             wanted,
             "{rest} more"
         );
+    }
+    Ok(())
+}
+
+/// The sequent of one formula, of the rule's form and on the rule's side, with these parts.
+fn of_parts(alloc: Global, rule: u32, one: Form, two: Form) -> Result<Sequent, NoMemory> {
+    let one = boxed(alloc, one)?;
+    let two = boxed(alloc, two)?;
+    let mut sequent = Sequent {
+        left: List::new(alloc),
+        right: List::new(alloc),
+    };
+    match rule {
+        rule::AND_L => sequent.left.push(Form::And(one, two))?,
+        rule::AND_R => sequent.right.push(Form::And(one, two))?,
+        _ => sequent.left.push(Form::Imp(one, two))?,
+    }
+    Ok(sequent)
+}
+
+#[test]
+fn depths_of_parts(rt: HostRuntime) -> Result<(), Fail> {
+    let alloc = rt.alloc();
+    let deeper = SEQUENT_DEPTH + 1;
+    let rows = [
+        (SEQUENT_DEPTH, SEQUENT_DEPTH, ""),
+        (deeper, 1, "large"),
+        (1, deeper, "large"),
+    ];
+    for rule in [rule::AND_L, rule::AND_R, rule::IMP_L] {
+        for (one, two, wanted) in rows {
+            let whole = of_parts(alloc, rule, chain(alloc, one)?, chain(alloc, two)?)?;
+            assert_eq!(rt;
+                word(applied(alloc, &whole, rule, &[1])),
+                wanted,
+                "rule {rule}, depths {one} and {two}"
+            );
+        }
     }
     Ok(())
 }

@@ -4,7 +4,7 @@ use Rattle.std.specs.Prelude.{Some, None, codes}
 use Rattle.kv_lex.specs.declared.mark.TheConstants.{OPEN_BRACE, CLOSE_BRACE, SEMICOLON, COLON, DOT, BAR}
 use Rattle.kv_lex.specs.declared.token.TokenKind.{TokenKind}
 use Rattle.kv_lex.specs.declared.token.TokenKind.TheVariants.{Word, Ident, Mark}
-use Rattle.kv_pexpr.specs.Parse.{eat_mark}
+use Rattle.kv_pexpr.specs.Parse.{eat_mark, eat_word}
 use Rattle.kv_syn.specs.Trees.{Name}
 use Rattle.kv_syn.specs.Scripts.{Step, Script, Scripts}
 use Rattle.kv_syn.specs.ScriptBridge.{scripts_of}
@@ -13,13 +13,13 @@ use Rattle.kv_table.specs.declared.keyword.TheConstants as word
 use Rattle.kv_punit.specs.Grammar as g
 use Rattle.kv_punit.specs.Grammar.{IsStep, IsScript, AreScripts, IsLabel, AreItems, IsProof, path_steps}
 use Rattle.kv_punit.specs.Parse as spec
-use Rattle.kv_punit.proofs.Steps.{close_found, imp_right_found}
+use Rattle.kv_punit.proofs.Steps.{two_not_one}
 use Rattle.kv_punit.proofs.Turns.{script_hole}
 
 -- a reading takes a token at least
 pub step_takes : {ts us : List TokenKind} {s : Step} → IsStep ts s us → length us < length ts
-step_takes g.close = omega arith
-step_takes g.imp_right = omega arith
+step_takes (g.one named takes) = omega arith
+step_takes (g.two named takes) = omega arith
 
 mutual
   pub script_takes : {n : ℕ} {ts us : List TokenKind} {s : Script} → IsScript n ts s us → length us < length ts
@@ -33,12 +33,12 @@ mutual
   scripts_take (g.more r s) = omega (arith, script_takes r, scripts_take s)
 
 pub exact_step : {ts us : List TokenKind} {s : Step} → IsStep ts s us → spec.step ts ≡ Some (s, us)
-exact_step g.close = rw close_found
-exact_step g.imp_right = rw imp_right_found
+exact_step (g.one named takes) = rw (named, takes)
+exact_step (g.two {row = row} named takes) = rw (named, two_not_one row takes, takes)
 
-no_open : {ts us : List TokenKind} {s : Step} → IsStep ts s us → spec.eat_word word.OPEN ts ≡ None
-no_open g.close = refl
-no_open g.imp_right = refl
+no_open : {ts us : List TokenKind} {s : Step} → IsStep ts s us → eat_word word.OPEN ts ≡ None
+no_open (g.one named takes) = refl
+no_open (g.two named takes) = refl
 
 -- nothing goes on a script there
 pub record Ends (us : List TokenKind) : Type 0 where
@@ -64,17 +64,17 @@ block_more n ts us vs s list e less rest zero done fits = absurd (omega arith)
 block_more n ts us vs s list e less rest (suc k) done fits =
     rw e (rest k (done ++ (s ∷ [])) (omega arith) ∙ ap (λ l. Some (l, vs)) (append_assoc done (s ∷ []) list))
 
-node_leaf : (n : ℕ) (ts us : List TokenKind) (s : Step) → spec.step ts ≡ Some (s, us) → spec.eat_word word.OPEN ts ≡ None → Ends us
+node_leaf : (n : ℕ) (ts us : List TokenKind) (s : Step) → spec.step ts ≡ Some (s, us) → eat_word word.OPEN ts ≡ None → Ends us
     → spec.script (suc n) ts ≡ Some (Script.Node s Scripts.none, us)
 unfolding spec.script
 node_leaf n ts us s e none stop = rw (none, e, stop.no_semicolon, stop.no_brace)
 
-node_chain : (n : ℕ) (ts us vs : List TokenKind) (s : Step) (k : Script) → spec.step ts ≡ Some (s, Mark SEMICOLON ∷ us) → spec.eat_word word.OPEN ts ≡ None
+node_chain : (n : ℕ) (ts us vs : List TokenKind) (s : Step) (k : Script) → spec.step ts ≡ Some (s, Mark SEMICOLON ∷ us) → eat_word word.OPEN ts ≡ None
     → spec.script n us ≡ Some (k, vs) → spec.script (suc n) ts ≡ Some (Script.Node s (Scripts.more k Scripts.none), vs)
 unfolding spec.script
 node_chain n ts us vs s k e none rest = rw (none, e, rest)
 
-node_block : (n : ℕ) (ts us vs : List TokenKind) (s : Step) (list : List Script) → spec.step ts ≡ Some (s, Mark OPEN_BRACE ∷ us) → spec.eat_word word.OPEN ts ≡ None
+node_block : (n : ℕ) (ts us vs : List TokenKind) (s : Step) (list : List Script) → spec.step ts ≡ Some (s, Mark OPEN_BRACE ∷ us) → eat_word word.OPEN ts ≡ None
     → spec.block (spec.script n) (length us) [] us ≡ Some (list, vs) → spec.script (suc n) ts ≡ Some (Script.Node s (scripts_of list), vs)
 unfolding spec.script
 node_block n ts us vs s list e none rest = rw (none, e, rest)
@@ -148,15 +148,15 @@ exact_label {ts} {us} {l} r stop =
     label_by ts us p.rest l p.first p.more p.begins p.whole (p.reads (length (Ident p.first ∷ p.rest)) p.first (omega arith))
 
 pub exact_proof : {ts us : List TokenKind} {p : Proof} → IsProof ts p us → spec.proof ts ≡ Some (p, us)
-exact_proof (g.proof l s) = rw (exact_label l refl, exact_script s (record { no_semicolon = refl; no_brace = refl }))
+exact_proof (g.proof l plain s) = rw (exact_label l refl, plain, exact_script s (record { no_semicolon = refl; no_brace = refl }))
 
 -- the items that are left are read, wherever there are turns enough
-items_none : (us : List TokenKind) → spec.eat_word word.PRED us ≡ None → (k : ℕ) (done : List Item) → length us ≤ k → spec.items k done us ≡ Some (done ++ [], us)
+items_none : (us : List TokenKind) → eat_word word.PRED us ≡ None → (k : ℕ) (done : List Item) → length us ≤ k → spec.items k done us ≡ Some (done ++ [], us)
 unfolding spec.items
 items_none us stop zero done fits = ap (λ l. Some (l, us)) (sym (append-nil done))
 items_none us stop (suc k) done fits = rw stop (ap (λ l. Some (l, us)) (sym (append-nil done)))
 
-pub exact_items : {ts us : List TokenKind} {list : List Item} → AreItems ts list us → spec.eat_word word.PRED us ≡ None
+pub exact_items : {ts us : List TokenKind} {list : List Item} → AreItems ts list us → eat_word word.PRED us ≡ None
     → (k : ℕ) (done : List Item) → length ts ≤ k → spec.items k done ts ≡ Some (done ++ list, us)
 unfolding spec.items
 exact_items (g.none {us = us}) stop k done fits = items_none us stop k done fits

@@ -5,7 +5,10 @@ pub mod Exact
 pub mod Maps
 pub mod Rules
 pub mod Wholes
-pub mod Firsts
+pub mod Checks
+pub mod Lists
+pub mod Runs
+pub mod Differing
 pub mod Settled
 pub mod One
 pub mod Texts

@@ -4,7 +4,8 @@ use Rattle.std.specs.Prelude.{None}
 use Rattle.kv_lex.specs.declared.mark.TheConstants.{SEMICOLON}
 use Rattle.kv_lex.specs.declared.token.TokenKind.{TokenKind}
 use Rattle.kv_lex.specs.declared.token.TokenKind.TheVariants.{Word, Mark}
-use Rattle.kv_pexpr.specs.Grammar.{NoArrow, ReadsForm}
+use Rattle.kv_pexpr.specs.Grammar.{Stops, ReadsForm}
+use Rattle.kv_pexpr.specs.Parse.{eat_word}
 use Rattle.kv_pexpr.proofs.One as forms
 use Rattle.kv_pexpr.proofs.Steps.{some_is}
 use Rattle.kv_syn.specs.Projects.{Theorem, Proof, Item, Kind}
@@ -13,26 +14,26 @@ use Rattle.kv_table.specs.declared.keyword.TheConstants as word
 use Rattle.kv_punit.specs.Grammar as g
 use Rattle.kv_punit.specs.Grammar.{AreItems, IsTheorem, IsProof, AreTheorems, AreProofs, IsUnit, AreUnits, IsProject}
 use Rattle.kv_punit.specs.ReadsAs.{OneSpelling}
-use Rattle.kv_punit.specs.Parse as spec
+use Rattle.kv_punit.specs.Ends.{Ends}
 use Rattle.kv_punit.proofs.Exact.{exact_proof, exact_items}
 use Rattle.kv_punit.proofs.Wholes.{theorem_parts}
 
-no_arrow : (us : List TokenKind) → NoArrow (Mark SEMICOLON ∷ us)
-no_arrow us vs e = cc
+stops : (us : List TokenKind) → Stops (Mark SEMICOLON ∷ us)
+stops us vs = (λ e. cc, λ e. cc)
 
-one_theorem : {ts us vs : List TokenKind} {t u : Theorem} → IsTheorem ts t us → IsTheorem ts u vs → (t ≡ u) × (us ≡ vs)
+pub one_theorem : {ts us vs : List TokenKind} {t u : Theorem} → IsTheorem ts t us → IsTheorem ts u vs → (t ≡ u) × (us ≡ vs)
 one_theorem {ts} {us} {vs} {t} {u} r s =
     let a = theorem_parts r in
     let b = theorem_parts s in
     let head = some_is (sym a.begins ∙ b.begins) in
     let name : t.name ≡ u.name = ap (λ x. x.0) head in
     let behind : a.behind ≡ b.behind = ap (λ x. x.1) head in
-    let f = forms.one_reading b.behind (Mark SEMICOLON ∷ us) (Mark SEMICOLON ∷ vs) t.form u.form (subst (λ x. ReadsForm x t.form (Mark SEMICOLON ∷ us)) behind a.reads) b.reads (no_arrow us) (no_arrow vs) in
+    let f = forms.one_reading b.behind (Mark SEMICOLON ∷ us) (Mark SEMICOLON ∷ vs) t.form u.form (subst (λ x. ReadsForm x t.form (Mark SEMICOLON ∷ us)) behind a.reads) b.reads (stops us) (stops vs) in
     let simp : t.simp ≡ u.simp = a.plain ∙ sym b.plain in
     let form : t.form ≡ u.form = f.0 in
     (ap (λ (n : List ℕ). record { name = n; simp = t.simp; form = t.form }) name ∙ ap (λ b. record { name = u.name; simp = b; form = t.form }) simp ∙ ap (λ f. record { name = u.name; simp = u.simp; form = f }) form, cc (f.1))
 
-one_proof : {ts us vs : List TokenKind} {p q : Proof} → IsProof ts p us → IsProof ts q vs → (p ≡ q) × (us ≡ vs)
+pub one_proof : {ts us vs : List TokenKind} {p q : Proof} → IsProof ts p us → IsProof ts q vs → (p ≡ q) × (us ≡ vs)
 one_proof r s = let e = some_is (sym (exact_proof r) ∙ exact_proof s) in (ap (λ x. x.0) e, ap (λ x. x.1) e)
 
 one_items : {ts us vs : List TokenKind} {l m : List Item} → AreItems ts l (Word word.END ∷ us) → AreItems ts m (Word word.END ∷ vs) → (l ≡ m) × (us ≡ vs)
@@ -41,44 +42,40 @@ one_items {ts} {us} {vs} r s =
     let rest = ap (λ x. x.1) e in
     (ap (λ x. x.0) e, cc (rest))
 
--- no theorem and no proof begins there
-abbrev pub Ends : List TokenKind → Type 0
-Ends us = (spec.eat_word word.THEOREM us ≡ None) × (spec.eat_word word.PROOF us ≡ None)
-
-theorem_begins : {ts us : List TokenKind} {t : Theorem} → IsTheorem ts t us → spec.eat_word word.THEOREM ts ≡ None → ⊥
+pub theorem_begins : {ts us : List TokenKind} {t : Theorem} → IsTheorem ts t us → eat_word word.THEOREM ts ≡ None → ⊥
 theorem_begins (g.theorem r) e = cc
 
-proof_begins : {ts us : List TokenKind} {p : Proof} → IsProof ts p us → spec.eat_word word.PROOF ts ≡ None → ⊥
-proof_begins (g.proof l s) e = cc
+pub proof_begins : {ts us : List TokenKind} {p : Proof} → IsProof ts p us → eat_word word.PROOF ts ≡ None → ⊥
+proof_begins (g.proof l plain s) e = cc
 
-no_theorem : {ts us : List TokenKind} {p : Proof} → IsProof ts p us → spec.eat_word word.THEOREM ts ≡ None
-no_theorem (g.proof l s) = refl
+no_theorem : {ts us : List TokenKind} {p : Proof} → IsProof ts p us → eat_word word.THEOREM ts ≡ None
+no_theorem (g.proof l plain s) = refl
 
-one_theorems : {ts us vs : List TokenKind} {l m : List Theorem} → AreTheorems ts l us → AreTheorems ts m vs → spec.eat_word word.THEOREM us ≡ None → spec.eat_word word.THEOREM vs ≡ None
+pub one_theorems : {ts us vs : List TokenKind} {l m : List Theorem} → AreTheorems ts l us → AreTheorems ts m vs → eat_word word.THEOREM us ≡ None → eat_word word.THEOREM vs ≡ None
     → (l ≡ m) × (us ≡ vs)
 one_theorems g.none g.none e f = (refl, refl)
 one_theorems g.none (g.more s ss) e f = absurd (theorem_begins s e)
 one_theorems (g.more r rs) g.none e f = absurd (theorem_begins r f)
-one_theorems (g.more {us = us} {vs = vs} {t = t} {rest = l} r rs) (g.more {us = us'} {vs = vs'} {t = t'} {rest = m} s ss) e f =
+one_theorems (g.more {us = us} {vs = vs} {x = t} {rest = l} r rs) (g.more {us = us'} {vs = vs'} {x = t'} {rest = m} s ss) e f =
     let h = one_theorem r s in
     let rest = one_theorems (subst (λ x. AreTheorems x l vs) h.1 rs) ss e f in
     (ap (λ x. x ∷ l) h.0 ∙ ap (λ x. t' ∷ x) rest.0, rest.1)
 
-one_proofs : {ts us vs : List TokenKind} {l m : List Proof} → AreProofs ts l us → AreProofs ts m vs → spec.eat_word word.PROOF us ≡ None → spec.eat_word word.PROOF vs ≡ None
+pub one_proofs : {ts us vs : List TokenKind} {l m : List Proof} → AreProofs ts l us → AreProofs ts m vs → eat_word word.PROOF us ≡ None → eat_word word.PROOF vs ≡ None
     → (l ≡ m) × (us ≡ vs)
 one_proofs g.none g.none e f = (refl, refl)
 one_proofs g.none (g.more s ss) e f = absurd (proof_begins s e)
 one_proofs (g.more r rs) g.none e f = absurd (proof_begins r f)
-one_proofs (g.more {us = us} {vs = vs} {p = p} {rest = l} r rs) (g.more {us = us'} {vs = vs'} {p = p'} {rest = m} s ss) e f =
+one_proofs (g.more {us = us} {vs = vs} {x = p} {rest = l} r rs) (g.more {us = us'} {vs = vs'} {x = p'} {rest = m} s ss) e f =
     let h = one_proof r s in
     let rest = one_proofs (subst (λ x. AreProofs x l vs) h.1 rs) ss e f in
     (ap (λ x. x ∷ l) h.0 ∙ ap (λ x. p' ∷ x) rest.0, rest.1)
 
-proofs_stop : {ts us : List TokenKind} {l : List Proof} → AreProofs ts l us → spec.eat_word word.THEOREM us ≡ None → spec.eat_word word.THEOREM ts ≡ None
+pub proofs_stop : {ts us : List TokenKind} {l : List Proof} → AreProofs ts l us → eat_word word.THEOREM us ≡ None → eat_word word.THEOREM ts ≡ None
 proofs_stop g.none e = e
 proofs_stop (g.more r rs) e = no_theorem r
 
-one_unit : {ts us vs : List TokenKind} {u v : P.Unit} → IsUnit ts u us → IsUnit ts v vs → Ends us → Ends vs → (u ≡ v) × (us ≡ vs)
+pub one_unit : {ts us vs : List TokenKind} {u v : P.Unit} → IsUnit ts u us → IsUnit ts v vs → Ends us → Ends vs → (u ≡ v) × (us ≡ vs)
 one_unit (g.unit {n = n} {vs = xs} {ws = ws} {items = items} {theorems = ths} {proofs = ps} is ts' ps') (g.unit {items = items'} {theorems = ths'} {proofs = qs} is' us' qs') e f =
     let i = one_items is is' in
     let t = one_theorems (subst (λ x. AreTheorems x ths xs) i.1 ts') us' (proofs_stop ps' e.0) (proofs_stop qs' f.0) in
@@ -89,21 +86,21 @@ one_unit (g.unit {n = n} {vs = xs} {ws = ws} {items = items} {theorems = ths} {p
       p.1,
     )
 
-unit_stops : {ts us : List TokenKind} {u : P.Unit} → IsUnit ts u us → Ends ts
+pub unit_stops : {ts us : List TokenKind} {u : P.Unit} → IsUnit ts u us → Ends ts
 unit_stops (g.unit is ts ps) = (refl, refl)
 
-units_stop : {ts us : List TokenKind} {p : P.Project} → AreUnits ts p us → us ≡ [] → Ends ts
+pub units_stop : {ts us : List TokenKind} {p : P.Project} → AreUnits ts p us → us ≡ [] → Ends ts
 units_stop g.none e = rw e (refl, refl)
 units_stop (g.more r rs) e = unit_stops r
 
-unit_some : {ts us : List TokenKind} {u : P.Unit} → IsUnit ts u us → ts ≡ [] → ⊥
+pub unit_some : {ts us : List TokenKind} {u : P.Unit} → IsUnit ts u us → ts ≡ [] → ⊥
 unit_some (g.unit is ts ps) e = cc
 
-one_units : {ts us vs : List TokenKind} {p q : P.Project} → AreUnits ts p us → AreUnits ts q vs → us ≡ [] → vs ≡ [] → p ≡ q
+pub one_units : {ts us vs : List TokenKind} {p q : P.Project} → AreUnits ts p us → AreUnits ts q vs → us ≡ [] → vs ≡ [] → p ≡ q
 one_units g.none g.none e f = refl
 one_units g.none (g.more s ss) e f = absurd (unit_some s e)
 one_units (g.more r rs) g.none e f = absurd (unit_some r f)
-one_units (g.more {us = us} {vs = vs} {u = u} {rest = l} r rs) (g.more {us = us'} {vs = vs'} {u = u'} {rest = m} s ss) e f =
+one_units (g.more {us = us} {vs = vs} {x = u} {rest = l} r rs) (g.more {us = us'} {vs = vs'} {x = u'} {rest = m} s ss) e f =
     let h = one_unit r s (units_stop rs e) (units_stop ss f) in
     let rest = one_units (subst (λ x. AreUnits x l vs) h.1 rs) ss e f in
     ap (λ x. x ∷ l) h.0 ∙ ap (λ x. u' ∷ x) rest

@@ -11,7 +11,7 @@ use Rattle.kv_pexpr.proofs.Steps.{some_is}
 use Rattle.kv_table.specs.Names.{row_of}
 use Rattle.kv_table.specs.Tables.{rule_rows}
 use Rattle.kv_punit.proofs.Steps.{spelt_row}
-use Rattle.kv_punit.proofs.Firsts.{and_true, le_from}
+use Rattle.kv_punit.proofs.Checks.{and_true, le_from}
 
 ascii_rows : list_all (list_all (λ c. nat_le c 127)) rule_rows ≡ true
 unfolding rule_rows

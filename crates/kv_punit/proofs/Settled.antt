@@ -1,55 +1,28 @@
--- What is settled once a unit is read.
-use Rattle.std.proofs.Common.{◌≡◌, List, [], ◌∷◌, length, refl, ap, ◌∙◌, sym, subst, inl, inr, arith}
-use Rattle.std.proofs.lemmas.Bool.Decides.{eqb_tells}
-use Rattle.std.specs.Prelude.{Bool, true, false, ◌==◌}
-use Rattle.kv_lex.specs.declared.token.Token.{Token}
+-- From the parts of a project to what is answered of it.
+use Rattle.std.proofs.Common.{◌≡◌, List, [], refl, sym, subst}
+use Rattle.std.specs.Prelude.{Result, Ok, Err}
 use Rattle.kv_lex.specs.declared.token.TokenKind.{TokenKind}
-use Rattle.kv_pexpr.specs.Gives.{kinds}
 use Rattle.kv_syn.specs.Projects as P
-use Rattle.kv_punit.specs.Grammar as g
-use Rattle.kv_punit.specs.Grammar.{IsUnit, AreUnits}
-use Rattle.kv_punit.specs.Limits.{IsFirst}
-use Rattle.kv_punit.specs.ReadsAs.{IsSmall, HasFewSteps}
-use Rattle.kv_punit.specs.Tests as test
-use Rattle.kv_punit.proofs.Firsts.{first_from, first_small, first_stated, first_unit, few_from, few_not}
+use Rattle.kv_syn.specs.declared.projects.Project.{Project}
+use Rattle.kv_punit.specs.Grammar.{AreUnits}
+use Rattle.kv_punit.specs.Limits.{IsWellformed}
+use Rattle.kv_punit.specs.ReadsAs.{Settles}
+use Rattle.kv_punit.specs.declared.errors.TextError.{TextError}
+use Rattle.kv_punit.specs.declared.errors.TextError.TheVariants as error
+use Rattle.kv_punit.specs.declared.errors.Which.TheVariants.{Steps, Units, Theorems}
+use Rattle.kv_punit.proofs.One.{one_units}
 
--- nothing else than that is read
-abbrev pub Only : List TokenKind → P.Unit → List TokenKind → Type 0
-Only ts v us = (u : P.Unit) → IsUnit ts u [] → IsSmall u → ◌≡◌ {A = P.Unit × List TokenKind} (v, us) (u, [])
+-- names that are equal
+pub unwell : (ts : List TokenKind) (q : P.Project) → AreUnits ts q [] → (IsWellformed q → ⊥) → Settles (λ p. AreUnits ts p []) (Err error.Syntax)
+unwell ts q are not p spelt well = not (subst IsWellformed (one_units spelt are refl refl) well)
 
-abbrev pub NoProject : List TokenKind → Type 0
-NoProject ts = (p : P.Project) → AreUnits ts p [] → IsFirst p → ⊥
-
-pub none_read : (ts : List TokenKind) → ((u : P.Unit) → IsUnit ts u [] → IsSmall u → ⊥) → NoProject ts
-none_read ts none p are f = none f.unit (first_unit ts p are f) (first_small p f)
-
-pub more_left : (ts us : List TokenKind) (v : P.Unit) → (us ≡ [] → ⊥) → Only ts v us → NoProject ts
-more_left ts us v some only p are f = some (ap (λ x. x.1) (only f.unit (first_unit ts p are f) (first_small p f)))
-
-pub unstated : (ts us : List TokenKind) (v : P.Unit) → test.is_stated v ≡ false → Only ts v us → NoProject ts
-unstated ts us v fails only p are f =
-    let same : v ≡ f.unit = ap (λ x. x.0) (only f.unit (first_unit ts p are f) (first_small p f)) in
-    absurd (let e = sym fails ∙ ap test.is_stated same ∙ first_stated p f in cc)
-
-pub units_one : (ts us : List TokenKind) (v : P.Unit) → IsUnit ts v us → us ≡ [] → AreUnits ts (v ∷ []) []
-units_one ts us v is e = subst (AreUnits ts (v ∷ [])) e (g.more is g.none)
-
-pub too_many : (ts us : List TokenKind) (v : P.Unit) → IsUnit ts v us → IsSmall v → us ≡ [] → test.is_stated v ≡ true → test.has_few_steps v ≡ false
-    → (p : P.Project) × AreUnits ts p [] × IsFirst p × (HasFewSteps p → ⊥)
-too_many ts us v is small end stated many = (v ∷ [], units_one ts us v is end, first_from v small stated, few_not v many)
-
-pub settled : (ts us : List TokenKind) (v : P.Unit) (q : P.Project) → IsUnit ts v us → IsSmall v → us ≡ [] → test.is_stated v ≡ true → test.has_few_steps v ≡ true → q ≡ v ∷ []
-    → AreUnits ts q [] × IsFirst q × HasFewSteps q
-settled ts us v q is small end stated few same =
-    subst (λ x. AreUnits ts x [] × IsFirst x × HasFewSteps x) (sym same) (units_one ts us v is end, first_from v small stated, few_from v few)
-
-pub none_left : (b : Bool) (ts : List Token) → b ≡ (length ts == 0) → b ≡ true → kinds ts ≡ []
-none_left b [] e f = refl
-none_left b (t ∷ ts) e f = elim (eqb_tells (length (t ∷ ts)) 0) [
-  | inl h ↦ absurd (omega (arith, h.1))
-  | inr h ↦ absurd (let k = h.0 in cc)
-]
-
-pub some_left : (b : Bool) (ts : List Token) → b ≡ (length ts == 0) → b ≡ false → kinds ts ≡ [] → ⊥
-some_left b [] e f h = absurd (cc)
-some_left b (t ∷ ts) e f h = cc
+-- what is told of one project is told of all that are spelt
+pub settled : (ts : List TokenKind) (q : P.Project) (r : Result Project TextError) → AreUnits ts q [] → IsWellformed q → Settles (λ p. p ≡ q) r → Settles (λ p. AreUnits ts p []) r
+settled ts q (Ok p) are well s = (subst (λ x. AreUnits ts x []) (sym s.0) are, s.1, s.2, s.3, s.4)
+settled ts q (Err error.Syntax) are well s = absurd (s q refl well)
+settled ts q (Err (error.Limit Steps)) are well s = (s.0, subst (λ x. AreUnits ts x []) (sym s.1) are, s.2, s.3)
+settled ts q (Err (error.Limit Units)) are well s = (s.0, subst (λ x. AreUnits ts x []) (sym s.1) are, s.2, s.3, s.4)
+settled ts q (Err (error.Limit Theorems)) are well s = (s.0, subst (λ x. AreUnits ts x []) (sym s.1) are, s.2, s.3, s.4, s.5)
+settled ts q (Err (error.Token place)) are well s = absurd s
+settled ts q (Err error.Version) are well s = absurd s
+settled ts q (Err error.NoMemory) are well s = tt

@@ -1,11 +1,11 @@
 -- What the readers compute is in the grammar.
-use Rattle.std.proofs.Common.{ℕ, zero, suc, ◌≡◌, List, [], ◌∷◌, ◌++◌, length, ap, ◌∙◌, sym, subst, inl, inr, append_assoc, append-nil}
-use Rattle.std.specs.Prelude.{Some, None, cond, ◌==◌, slice_get, codes}
+use Rattle.std.proofs.Common.{ℕ, zero, suc, ◌≡◌, refl, List, [], ◌∷◌, ◌++◌, length, ap, ◌∙◌, sym, subst, inl, inr, append_assoc, append-nil}
+use Rattle.std.specs.Prelude.{Bool, true, false, Some, None, cond}
 use Rattle.kv_lex.specs.declared.mark.TheConstants.{OPEN_BRACE, CLOSE_BRACE, SEMICOLON, EQUAL, BAR}
 use Rattle.kv_lex.specs.declared.token.TokenKind.{TokenKind}
 use Rattle.kv_lex.specs.declared.token.TokenKind.TheVariants.{Word, Ident, Number, Mark}
-use Rattle.kv_pexpr.specs.Parse.{Read, given, or_stay, eat_mark, eat_name}
-use Rattle.kv_pexpr.proofs.Steps.{some_is, given_some, stay_or, mark_some, name_some}
+use Rattle.kv_pexpr.specs.Parse.{Read, given, or_stay, eat_mark, eat_word, eat_name}
+use Rattle.kv_pexpr.proofs.Steps.{some_is, given_some, stay_or, mark_some, word_some, name_some}
 use Rattle.kv_syn.specs.Trees.{Name}
 use Rattle.kv_syn.specs.Scripts.{Step, Script, Scripts}
 use Rattle.kv_syn.specs.ScriptBridge.{scripts_of}
@@ -13,27 +13,24 @@ use Rattle.kv_syn.specs.Projects.{Proof, Item}
 use Rattle.kv_table.specs.Names.{row_of}
 use Rattle.kv_table.specs.Tables.{rule_rows}
 use Rattle.kv_table.specs.declared.keyword.TheConstants as word
-use Rattle.kv_table.specs.declared.rule.TheConstants as rule
 use Rattle.kv_punit.specs.Grammar as g
-use Rattle.kv_punit.specs.Grammar.{IsStep, IsScript, AreScripts, IsLabel, AreItems, IsProof, path_steps}
+use Rattle.kv_punit.specs.Grammar.{IsStep, IsScript, AreScripts, IsLabel, AreItems, IsProof, takes_one, takes_two, path_steps, has_colon}
 use Rattle.kv_punit.specs.Parse as spec
-use Rattle.kv_punit.proofs.Steps.{word_some, number_some, cond_some, close_row, imp_right_row, spelt_row, separator_some}
+use Rattle.kv_punit.proofs.Steps.{number_some, cond_some, separator_some}
 
-sound_numbers : (n : Name) (row : ℕ) (us : List TokenKind) (r : Step × List TokenKind) → slice_get rule_rows row ≡ Some n → spec.numbers (row, us) ≡ Some r → IsStep (Ident n ∷ us) r.0 r.1
-sound_numbers n row us r here e =
-    elim (cond_some row rule.CLOSE (given (spec.eat_number us) spec.second) (cond (row == rule.IMP_R) (given (spec.eat_number us) spec.one) None) e) [
+sound_numbers : (n : Name) (row : ℕ) (us : List TokenKind) (r : Step × List TokenKind) → row_of rule_rows n ≡ Some row → spec.numbers (row, us) ≡ Some r → IsStep (Ident n ∷ us) r.0 r.1
+sound_numbers n row us r named e =
+    elim (cond_some (takes_one row) (spec.one_number (row, us)) (cond (takes_two row) (spec.two_numbers (row, us)) None) e) [
       | inl a ↦ (
-          let i = given_some (spec.eat_number us) spec.second a.1 in
-          let j = given_some (spec.eat_number i.0.1) (spec.two i.0.0) i.2 in
-          let spelt : n ≡ codes "close" = some_is (sym here ∙ ap (slice_get rule_rows) a.0 ∙ close_row) in
-          rw (spelt, number_some us i.0 i.1, number_some i.0.1 j.0 j.1)
-          (subst (λ (x : Step × List TokenKind). IsStep (Ident (codes "close") ∷ Number i.0.0 ∷ Number j.0.0 ∷ j.0.1) x.0 x.1) (some_is j.2) g.close))
-      | inr b ↦ elim (cond_some row rule.IMP_R (given (spec.eat_number us) spec.one) None b) [
+          let i = given_some (spec.eat_number us) (spec.one row) a.1 in
+          rw (number_some us i.0 i.1)
+          (subst (λ (x : Step × List TokenKind). IsStep (Ident n ∷ Number i.0.0 ∷ i.0.1) x.0 x.1) (some_is i.2) (g.one named a.0)))
+      | inr b ↦ elim (cond_some (takes_two row) (spec.two_numbers (row, us)) None b) [
         | inl a ↦ (
-            let i = given_some (spec.eat_number us) spec.one a.1 in
-            let spelt : n ≡ codes "impR" = some_is (sym here ∙ ap (slice_get rule_rows) a.0 ∙ imp_right_row) in
-            rw (spelt, number_some us i.0 i.1)
-            (subst (λ (x : Step × List TokenKind). IsStep (Ident (codes "impR") ∷ Number i.0.0 ∷ i.0.1) x.0 x.1) (some_is i.2) g.imp_right))
+            let i = given_some (spec.eat_number us) (spec.second row) a.1 in
+            let j = given_some (spec.eat_number i.0.1) (spec.two row i.0.0) i.2 in
+            rw (number_some us i.0 i.1, number_some i.0.1 j.0 j.1)
+            (subst (λ (x : Step × List TokenKind). IsStep (Ident n ∷ Number i.0.0 ∷ Number j.0.0 ∷ j.0.1) x.0 x.1) (some_is j.2) (g.two named a.0)))
         | inr a ↦ absurd (let f = a in cc)
       ]
     ]
@@ -44,7 +41,7 @@ sound_step ts r e =
     let b = given_some (eat_name ts) spec.ruled a.1 in
     let c = given_some (row_of rule_rows b.0.0) (λ row. Some (row, b.0.1)) b.2 in
     let f : spec.numbers (c.0, b.0.1) ≡ Some r = ap spec.numbers (some_is c.2) ∙ a.2 in
-    rw (name_some ts b.0 b.1) (sound_numbers b.0.0 c.0 b.0.1 r (spelt_row b.0.0 c.0 c.1) f)
+    rw (name_some ts b.0 b.1) (sound_numbers b.0.0 c.0 b.0.1 r c.1 f)
 
 module _ (n : ℕ) (read : List TokenKind → Read Script) (each : (ts : List TokenKind) (r : Script × List TokenKind) → read ts ≡ Some r → IsScript n ts r.0 r.1) where
   sound_block : (k : ℕ) (done : List Script) (ts : List TokenKind) (r : List Script × List TokenKind) → spec.block read k done ts ≡ Some r
@@ -87,16 +84,16 @@ module _ (n : ℕ) (read : List TokenKind → Read Script) (each : (ts : List To
       let c = given_some (spec.children read s.0.1) (λ r. Some (Script.Node s.0.0 (scripts_of r.0), r.1)) s.2 in
       subst (λ (x : Script × List TokenKind). IsScript (suc n) ts x.0 x.1) (some_is c.2) (sound_children ts s.0.1 s.0.0 c.0 (sound_step ts s.0 s.1) c.1)
 
-sound_hole : (n : ℕ) (ts us : List TokenKind) (r : Script × List TokenKind) → spec.eat_word word.OPEN ts ≡ Some us → spec.hole us ≡ Some r → IsScript n ts r.0 r.1
+sound_hole : (n : ℕ) (ts us : List TokenKind) (r : Script × List TokenKind) → eat_word word.OPEN ts ≡ Some us → spec.hole us ≡ Some r → IsScript n ts r.0 r.1
 sound_hole n ts us r e f = rw (word_some word.OPEN ts us e) (subst (λ (x : Script × List TokenKind). IsScript n (Word word.OPEN ∷ us) x.0 x.1) (some_is f) g.hole)
 
 pub sound_script : (n : ℕ) (ts : List TokenKind) (r : Script × List TokenKind) → spec.script n ts ≡ Some r → IsScript n ts r.0 r.1
 unfolding spec.script
-sound_script zero ts r e = elim (stay_or None spec.hole (spec.eat_word word.OPEN ts) e) [
+sound_script zero ts r e = elim (stay_or None spec.hole (eat_word word.OPEN ts) e) [
   | inl a ↦ sound_hole zero ts a.0 r a.1 a.2
   | inr a ↦ absurd (let f = a.1 in cc)
 ]
-sound_script (suc n) ts r e = elim (stay_or (given (spec.step ts) (spec.node (spec.script n))) spec.hole (spec.eat_word word.OPEN ts) e) [
+sound_script (suc n) ts r e = elim (stay_or (given (spec.step ts) (spec.node (spec.script n))) spec.hole (eat_word word.OPEN ts) e) [
   | inl a ↦ sound_hole (suc n) ts a.0 r a.1 a.2
   | inr a ↦ sound_node n (spec.script n) (sound_script n) ts r a.1
 ]
@@ -140,16 +137,28 @@ sound_label ts r e =
     let rest = sound_parts (length ts) n.0.0 n.0.1 r n.2 in
     label_from ts (Ident n.0.0 ∷ n.0.1) r.1 r.0 (n.0.0 ++ rest.0) (name_some ts n.0 n.1) rest.1 (rest.2 n.0.0)
 
+-- a label without a colon
+if_plain : (b : Bool) (r s : Name × List TokenKind) → cond b None (Some r) ≡ Some s → (b ≡ false) × (r ≡ s)
+if_plain true r s e = cc
+if_plain false r s e = (refl, some_is e)
+
+sound_proof_label : (ts : List TokenKind) (r : Name × List TokenKind) → spec.proof_label ts ≡ Some r → IsLabel ts r.0 r.1 × (has_colon r.0 ≡ false)
+sound_proof_label ts r e =
+    let l = given_some (spec.label ts) spec.without_colon e in
+    let b = if_plain (has_colon l.0.0) l.0 r l.2 in
+    subst (λ (x : Name × List TokenKind). IsLabel ts x.0 x.1 × (has_colon x.0 ≡ false)) b.1 (sound_label ts l.0 l.1, b.0)
+
 pub sound_proof : (ts : List TokenKind) (r : Proof × List TokenKind) → spec.proof ts ≡ Some r → IsProof ts r.0 r.1
 sound_proof ts r e =
-    let a = given_some (spec.eat_word word.PROOF ts) (λ us. given (spec.label us) spec.labelled) e in
-    let l = given_some (spec.label a.0) spec.labelled a.2 in
+    let a = given_some (eat_word word.PROOF ts) (λ us. given (spec.proof_label us) spec.labelled) e in
+    let l = given_some (spec.proof_label a.0) spec.labelled a.2 in
     let b = given_some (eat_mark EQUAL l.0.1) (spec.scripted l.0.0) l.2 in
     let s = given_some (spec.script path_steps b.0) (spec.closed l.0.0) b.2 in
-    let q = given_some (spec.eat_word word.QED s.0.1) (λ ts. Some (record { name = l.0.0; script = s.0.0 }, ts)) s.2 in
-    let label = rw (mark_some EQUAL l.0.1 b.0 b.1) at (sound_label a.0 l.0 l.1) in
+    let q = given_some (eat_word word.QED s.0.1) (λ ts. Some (record { name = l.0.0; script = s.0.0 }, ts)) s.2 in
+    let named = sound_proof_label a.0 l.0 l.1 in
+    let label = rw (mark_some EQUAL l.0.1 b.0 b.1) at named.0 in
     let script = rw (word_some word.QED s.0.1 q.0 q.1) at (sound_script path_steps b.0 s.0 s.1) in
-    rw (word_some word.PROOF ts a.0 a.1) (subst (λ (x : Proof × List TokenKind). IsProof (Word word.PROOF ∷ a.0) x.0 x.1) (some_is q.2) (g.proof label script))
+    rw (word_some word.PROOF ts a.0 a.1) (subst (λ (x : Proof × List TokenKind). IsProof (Word word.PROOF ∷ a.0) x.0 x.1) (some_is q.2) (g.proof label named.1 script))
 
 items_from : (ts us vs ws xs : List TokenKind) (n : Name) (more : List Item) → ts ≡ Word word.PRED ∷ us → us ≡ Ident n ∷ vs → vs ≡ Mark SEMICOLON ∷ ws
     → AreItems ws more xs → AreItems ts (Item.Pred n [] ∷ more) xs
@@ -159,7 +168,7 @@ pub sound_items : (k : ℕ) (done : List Item) (ts : List TokenKind) (r : List I
     → (more : List Item) × (r.0 ≡ done ++ more) × AreItems ts more r.1
 unfolding spec.items
 sound_items zero done ts r e = subst (λ (x : List Item × List TokenKind). (more : List Item) × (x.0 ≡ done ++ more) × AreItems ts more x.1) (some_is e) ([], sym (append-nil done), g.none)
-sound_items (suc k) done ts r e = elim (stay_or (Some (done, ts)) (spec.item (spec.items k) done) (spec.eat_word word.PRED ts) e) [
+sound_items (suc k) done ts r e = elim (stay_or (Some (done, ts)) (spec.item (spec.items k) done) (eat_word word.PRED ts) e) [
   | inl a ↦ (
       let n = given_some (eat_name a.0) (spec.predicate (spec.items k) done) a.2 in
       let b = given_some (eat_mark SEMICOLON n.0.1) (spec.items k (done ++ (Item.Pred n.0.0 [] ∷ []))) n.2 in

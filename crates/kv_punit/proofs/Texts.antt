@@ -11,28 +11,29 @@ use Rattle.kv_lex.specs.declared.token.TokenKind.TheVariants.{Word, Number}
 use Rattle.kv_pexpr.specs.Gives.{kinds, Gives}
 use Rattle.kv_pexpr.specs.declared.errors.ReadError.{ReadError}
 use Rattle.kv_pexpr.specs.declared.errors.ReadError.TheVariants as reader
-use Rattle.kv_pexpr.proofs.Steps.{given_some}
+use Rattle.kv_pexpr.specs.Parse.{eat_word}
+use Rattle.kv_pexpr.proofs.Steps.{given_some, word_some}
 use Rattle.kv_syn.specs.Projects as P
 use Rattle.kv_syn.specs.declared.projects.Project.{Project}
 use Rattle.kv_table.specs.declared.keyword.TheConstants as word
 use Rattle.kv_punit.specs.Errors.{of_reader, of_lexer}
-use Rattle.kv_punit.specs.Gives.{IsThat}
+use Rattle.kv_punit.specs.Gives.{Finds}
+use Rattle.kv_punit.specs.Limits.{HasFewSteps, HasFewUnits, HasFewTheorems}
 use Rattle.kv_punit.specs.Grammar as g
-use Rattle.kv_punit.specs.Grammar.{IsUnit, AreUnits, IsProject}
+use Rattle.kv_punit.specs.Grammar.{AreUnits, IsProject}
 use Rattle.kv_punit.specs.Parse as spec
-use Rattle.kv_punit.specs.ReadsAs.{HasFewSteps, IsOtherVersion, IsRefused, IsSmall, Settles, Reads, ReadsAs, OneProject}
+use Rattle.kv_punit.specs.ReadsAs.{IsOtherVersion, IsRefused, Settles, Reads, ReadsAs, OneProject}
 use Rattle.kv_punit.specs.declared.errors.TextError.{TextError}
 use Rattle.kv_punit.specs.declared.errors.TextError.TheVariants as error
 use Rattle.kv_punit.specs.declared.errors.Which.TheVariants.{Steps, Units, Theorems}
-use Rattle.kv_punit.proofs.Steps.{word_some, number_some}
-use Rattle.kv_punit.proofs.Settled.{none_read}
+use Rattle.kv_punit.proofs.Steps.{number_some}
 use Rattle.kv_punit.proofs.One.{one_spelling}
 use Rattle.kv_syn.specs.ProjectBridge.{plain_project}
 
 -- the tokens behind the version
 pub version_some : (ts : List TokenKind) (r : ℕ × List TokenKind) → spec.version ts ≡ Some r → ts ≡ Word word.PROJECT ∷ Number r.0 ∷ r.1
 version_some ts r e =
-    let a = given_some (spec.eat_word word.PROJECT ts) spec.eat_number e in
+    let a = given_some (eat_word word.PROJECT ts) spec.eat_number e in
     rw (word_some word.PROJECT ts a.0 a.1, number_some a.0 r a.2)
 
 version_reads : (ts rest : List TokenKind) (n : ℕ) → ts ≡ Word word.PROJECT ∷ Number n ∷ rest → spec.version ts ≡ Some (n, rest)
@@ -74,26 +75,29 @@ pub other_version : (text : List ℕ) (tokens : List Token) (n : ℕ) (rest : Li
     → (n ≡ 1 → ⊥) → ReadsAs text (Err error.Version)
 other_version text tokens n rest is gives other = (tokens, is, (n, rest, version_some (kinds tokens) (n, rest) gives, other))
 
--- no unit
-pub unit_error : {X : Type 0} (view : X → P.Unit × List TokenKind) (ts : List TokenKind) (e : ReadError)
-    → ((u : P.Unit) → IsUnit ts u [] → IsSmall u → IsThat view (Err e) (u, [])) → Settles (λ p. AreUnits ts p []) (Err (of_reader e))
-unit_error view ts reader.Syntax only = none_read ts only
-unit_error view ts reader.NoMemory only = tt
+-- no units
+pub units_error : {X : Type 0} (view : X → P.Project) (ts : List TokenKind) (e : ReadError) → Finds view (λ p. AreUnits ts p []) (Err e) → Settles (λ p. AreUnits ts p []) (Err (of_reader e))
+units_error view ts reader.Syntax none = λ p are well. none p are
+units_error view ts reader.NoMemory none = tt
 
 -- what stands behind the version
 pub behind_version : (text : List ℕ) (tokens : List Token) (rest : List TokenKind) (r : Result Project TextError) → lexed text ≡ Ok tokens
     → spec.version (kinds tokens) ≡ Some (1, rest) → Settles (λ p. AreUnits rest p []) r → ReadsAs text r
 behind_version text tokens rest (Ok p) is gives s =
     let e = version_some (kinds tokens) (1, rest) gives in
-    record { tokens = tokens; lexes = is; spelt = project_from (kinds tokens) rest (plain_project p) e s.0; first = s.1; short = s.2 }
+    record { tokens = tokens; lexes = is; spelt = project_from (kinds tokens) rest (plain_project p) e s.0; wellformed = s.1; few_steps = s.2; few_units = s.3; few_theorems = s.4 }
 behind_version text tokens rest (Err error.Syntax) is gives s =
     let e = version_some (kinds tokens) (1, rest) gives in
     (tokens, is, not_other (kinds tokens) rest e, λ q spelt first. s q (project_rest (kinds tokens) rest q e spelt) first)
 behind_version text tokens rest (Err (error.Limit Steps)) is gives s =
     let e = version_some (kinds tokens) (1, rest) gives in
     (tokens, is, not_other (kinds tokens) rest e, (s.0, project_from (kinds tokens) rest s.0 e s.1, s.2, s.3))
-behind_version text tokens rest (Err (error.Limit Units)) is gives s = absurd s
-behind_version text tokens rest (Err (error.Limit Theorems)) is gives s = absurd s
+behind_version text tokens rest (Err (error.Limit Units)) is gives s =
+    let e = version_some (kinds tokens) (1, rest) gives in
+    (tokens, is, not_other (kinds tokens) rest e, (s.0, project_from (kinds tokens) rest s.0 e s.1, s.2, s.3, s.4))
+behind_version text tokens rest (Err (error.Limit Theorems)) is gives s =
+    let e = version_some (kinds tokens) (1, rest) gives in
+    (tokens, is, not_other (kinds tokens) rest e, (s.0, project_from (kinds tokens) rest s.0 e s.1, s.2, s.3, s.4, s.5))
 behind_version text tokens rest (Err (error.Token place)) is gives s = absurd s
 behind_version text tokens rest (Err error.Version) is gives s = absurd s
 behind_version text tokens rest (Err error.NoMemory) is gives s = tt
@@ -119,12 +123,16 @@ refused text (Err (error.Token place)) is told p reads = absurd (let e = reads.l
 refused text (Err error.Version) is told p reads =
     let u = project_units (spelt_by is.0 is.1 reads) in
     not_other (kinds is.0) u.0 u.1 is.2
-refused text (Err error.Syntax) is told p reads = is.3 p (spelt_by is.0 is.1 reads) reads.first
+refused text (Err error.Syntax) is told p reads = is.3 p (spelt_by is.0 is.1 reads) reads.wellformed
 refused text (Err (error.Limit Steps)) is told p reads =
     let q = is.3 in
-    q.3 (subst HasFewSteps (one_spelling (kinds is.0) p q.0 (spelt_by is.0 is.1 reads) q.1) reads.short)
-refused text (Err (error.Limit Units)) is told p reads = is.3
-refused text (Err (error.Limit Theorems)) is told p reads = is.3
+    q.3 (subst HasFewSteps (one_spelling (kinds is.0) p q.0 (spelt_by is.0 is.1 reads) q.1) reads.few_steps)
+refused text (Err (error.Limit Units)) is told p reads =
+    let q = is.3 in
+    q.4 (subst HasFewUnits (one_spelling (kinds is.0) p q.0 (spelt_by is.0 is.1 reads) q.1) reads.few_units)
+refused text (Err (error.Limit Theorems)) is told p reads =
+    let q = is.3 in
+    q.5 (subst HasFewTheorems (one_spelling (kinds is.0) p q.0 (spelt_by is.0 is.1 reads) q.1) reads.few_theorems)
 refused text (Err error.NoMemory) is told p reads = told
 
 pub one_project : OneProject

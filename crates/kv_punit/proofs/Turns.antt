@@ -3,12 +3,12 @@ use Rattle.std.proofs.Common.{◌≡◌, ℕ, zero, suc, ◌+◌, ◌-◌, ◌<�
 use Rattle.std.specs.Prelude.{Some, None}
 use Rattle.kv_lex.specs.declared.mark.TheConstants.{SEMICOLON, CLOSE_BRACE, BAR}
 use Rattle.kv_lex.specs.declared.token.TokenKind.{TokenKind}
-use Rattle.kv_pexpr.specs.Parse.{Read, given, or_stay, eat_mark, eat_name}
+use Rattle.kv_pexpr.specs.Parse.{Read, given, or_stay, eat_mark, eat_word, eat_name}
 use Rattle.kv_syn.specs.Trees.{Name}
 use Rattle.kv_syn.specs.Scripts.{Script}
 use Rattle.kv_syn.specs.Projects.{Item}
 use Rattle.kv_table.specs.declared.keyword.TheConstants as word
-use Rattle.kv_punit.specs.Parse.{eat_word, block, child, separator, parts, part, items, item, script, step, node, hole}
+use Rattle.kv_punit.specs.Parse.{block, child, separator, parts, part, items, item, script, step, node, hole}
 
 module _ (n at : ℕ) (text : Name) (ts : List TokenKind) where
   pub parts_next : at < n → parts (n - at) text ts ≡ or_stay (Some (text, ts)) (part (parts (n - (at + 1))) text) (separator ts)

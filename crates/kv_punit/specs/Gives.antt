@@ -16,3 +16,9 @@ abbrev pub IsThat : {X Y : Type 0} → (X → Y) → Result X ReadError → Y �
 IsThat view (Ok x) read = view x ≡ read
 IsThat view (Err Syntax) read = ⊥
 IsThat view (Err NoMemory) read = Unit {0}
+
+-- a thing of that kind was found, or there is none, unless memory ran out
+abbrev pub Finds : {X Y : Type 0} → (X → Y) → (Y → Type 0) → Result X ReadError → Type 0
+Finds view Is (Ok x) = Is (view x)
+Finds {Y = Y} view Is (Err Syntax) = (y : Y) → Is y → ⊥
+Finds view Is (Err NoMemory) = Unit {0}

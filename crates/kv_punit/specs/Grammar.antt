@@ -1,6 +1,7 @@
 -- The grammar of projects so far. Each relation reads: the tokens ts begin with a spelling of the thing, and us are
 -- the tokens behind it.
-use Rattle.std.specs.Prelude.{ℕ, suc, false, List, [], ◌∷◌, ◌++◌, None, codes}
+use Rattle.std.specs.Prelude.{ℕ, suc, ◌≡◌, ◌==◌, Bool, true, false, List, [], ◌∷◌, ◌++◌, Some, None}
+use Rattle.std.specs.List.{list_any}
 use Rattle.kv_lex.specs.declared.mark.TheConstants.{OPEN_BRACE, CLOSE_BRACE, SEMICOLON, COLON, DOT, EQUAL, BAR}
 use Rattle.kv_lex.specs.declared.token.TokenKind.{TokenKind}
 use Rattle.kv_lex.specs.declared.token.TokenKind.TheVariants.{Word, Ident, Number, Mark}
@@ -10,6 +11,8 @@ use Rattle.kv_syn.specs.RawTrees.{RawForm}
 use Rattle.kv_syn.specs.Scripts.{Step, StepText, Script, Scripts}
 use Rattle.kv_syn.specs.Projects.{Theorem, Proof, Item, Kind, Project}
 use Rattle.kv_syn.specs.Projects as P
+use Rattle.kv_table.specs.Names.{row_of}
+use Rattle.kv_table.specs.Tables.{rule_rows}
 use Rattle.kv_table.specs.declared.keyword.TheConstants as word
 use Rattle.kv_table.specs.declared.rule.TheConstants as rule
 
@@ -17,10 +20,19 @@ use Rattle.kv_table.specs.declared.rule.TheConstants as rule
 abbrev pub numbered : ℕ → List ℕ → Step
 numbered row numbers = record { rule = row; side = None; numbers = numbers; text = StepText.Nothing }
 
--- step = "close" number number | "impR" number
+-- the rules with one number behind their word, and those with two
+abbrev pub takes_one : ℕ → Bool
+takes_one row = list_any (λ r. row == r) (rule.AND_L ∷ rule.AND_R ∷ rule.IMP_L ∷ rule.IMP_R ∷ [])
+
+abbrev pub takes_two : ℕ → Bool
+takes_two row = list_any (λ r. row == r) (rule.CLOSE ∷ [])
+
+-- step = name number | name number number, where the name is the word of a rule that takes so many
 pub data IsStep : List TokenKind → Step → List TokenKind → Type 0 where
-  close : {i j : ℕ} {us : List TokenKind} → IsStep (Ident (codes "close") ∷ Number i ∷ Number j ∷ us) (numbered rule.CLOSE (i ∷ j ∷ [])) us
-  imp_right : {i : ℕ} {us : List TokenKind} → IsStep (Ident (codes "impR") ∷ Number i ∷ us) (numbered rule.IMP_R (i ∷ [])) us
+  one : {n : Name} {row i : ℕ} {us : List TokenKind}
+      → row_of rule_rows n ≡ Some row → takes_one row ≡ true → IsStep (Ident n ∷ Number i ∷ us) (numbered row (i ∷ [])) us
+  two : {n : Name} {row i j : ℕ} {us : List TokenKind}
+      → row_of rule_rows n ≡ Some row → takes_two row ≡ true → IsStep (Ident n ∷ Number i ∷ Number j ∷ us) (numbered row (i ∷ j ∷ [])) us
 
 -- script = "open" | step [ ";" script | "{" script { "|" script } "}" ], with at most n steps on a path
 mutual
@@ -58,20 +70,26 @@ pub data IsTheorem : List TokenKind → Theorem → List TokenKind → Type 0 wh
 abbrev pub path_steps : ℕ
 path_steps = 500
 
--- proof = "proof" label "=" script "qed"
+-- a colon stands in the label
+abbrev pub has_colon : Name → Bool
+has_colon label = list_any (λ byte. byte == 58) label
+
+-- proof = "proof" label "=" script "qed", where the label has no colon
 pub data IsProof : List TokenKind → Proof → List TokenKind → Type 0 where
   proof : {l : Name} {ts us vs : List TokenKind} {s : Script}
-      → IsLabel ts l (Mark EQUAL ∷ us) → IsScript path_steps us s (Word word.QED ∷ vs)
+      → IsLabel ts l (Mark EQUAL ∷ us) → has_colon l ≡ false → IsScript path_steps us s (Word word.QED ∷ vs)
       → IsProof (Word word.PROOF ∷ ts) (record { name = l; script = s }) vs
 
--- theorems and proofs, as many as there are
-pub data AreTheorems : List TokenKind → List Theorem → List TokenKind → Type 0 where
-  none : {us : List TokenKind} → AreTheorems us [] us
-  more : {ts us vs : List TokenKind} {t : Theorem} {rest : List Theorem} → IsTheorem ts t us → AreTheorems us rest vs → AreTheorems ts (t ∷ rest) vs
+-- things one after another, as many as there are
+pub data Are {X : Type 0} (Is : List TokenKind → X → List TokenKind → Type 0) : List TokenKind → List X → List TokenKind → Type 0 where
+  none : {us : List TokenKind} → Are Is us [] us
+  more : {ts us vs : List TokenKind} {x : X} {rest : List X} → Is ts x us → Are Is us rest vs → Are Is ts (x ∷ rest) vs
 
-pub data AreProofs : List TokenKind → List Proof → List TokenKind → Type 0 where
-  none : {us : List TokenKind} → AreProofs us [] us
-  more : {ts us vs : List TokenKind} {p : Proof} {rest : List Proof} → IsProof ts p us → AreProofs us rest vs → AreProofs ts (p ∷ rest) vs
+abbrev pub AreTheorems : List TokenKind → List Theorem → List TokenKind → Type 0
+AreTheorems = Are IsTheorem
+
+abbrev pub AreProofs : List TokenKind → List Proof → List TokenKind → Type 0
+AreProofs = Are IsProof
 
 -- unit = "unit" name "basic" items "end", and then its theorems and proofs
 pub data IsUnit : List TokenKind → P.Unit → List TokenKind → Type 0 where
@@ -80,9 +98,8 @@ pub data IsUnit : List TokenKind → P.Unit → List TokenKind → Type 0 where
       → IsUnit (Word word.UNIT ∷ Ident n ∷ Word word.BASIC ∷ ts) (record { name = n; kind = Kind.Basic items; theorems = theorems; proofs = proofs }) ws
 
 -- project = "project" 1 { unit }
-pub data AreUnits : List TokenKind → Project → List TokenKind → Type 0 where
-  none : {us : List TokenKind} → AreUnits us [] us
-  more : {ts us vs : List TokenKind} {u : P.Unit} {rest : Project} → IsUnit ts u us → AreUnits us rest vs → AreUnits ts (u ∷ rest) vs
+abbrev pub AreUnits : List TokenKind → Project → List TokenKind → Type 0
+AreUnits = Are IsUnit
 
 pub data IsProject : List TokenKind → Project → Type 0 where
   project : {ts : List TokenKind} {p : Project} → AreUnits ts p [] → IsProject (Word word.PROJECT ∷ Number 1 ∷ ts) p

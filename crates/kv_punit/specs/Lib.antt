@@ -5,4 +5,5 @@ pub mod Gives
 pub mod Nests
 pub mod ReadsAs
 pub mod Tests
+pub mod Ends
 pub mod Errors

@@ -1,11 +1,33 @@
--- What a project keeps besides the grammar, so far.
-use Rattle.std.specs.Prelude.{ℕ, ◌≡◌, ◌≤◌, ◌+◌, List, [], ◌∷◌, length}
-use Rattle.std.specs.List.{All}
-use Rattle.kv_syn.specs.RawCount.{raw_form_nodes}
-use Rattle.kv_syn.specs.RawTrees.{RawForm, RawTerms}
+-- What a project keeps besides the grammar: names that differ, and its limits.
+use Rattle.std.specs.Prelude.{ℕ, ◌≤◌, ◌+◌, List, [], ◌∷◌, length, map}
+use Rattle.std.specs.List.{All, IsDistinct}
+use Rattle.std.specs.Str.{bytes_eq}
 use Rattle.kv_syn.specs.Scripts.{Script, Scripts}
 use Rattle.kv_syn.specs.Projects as P
 use Rattle.kv_syn.specs.Trees.{Name}
+
+-- no two names are equal
+abbrev pub AreDifferent : List Name → Type 0
+AreDifferent names = IsDistinct bytes_eq names
+
+abbrev pub unit_names : List P.Unit → List Name
+unit_names units = map (λ (unit : P.Unit). unit.name) units
+
+abbrev pub theorem_names : P.Unit → List Name
+theorem_names unit = map (λ (theorem : P.Theorem). theorem.name) unit.theorems
+
+abbrev pub proof_names : P.Unit → List Name
+proof_names unit = map (λ (proof : P.Proof). proof.name) unit.proofs
+
+-- the names of the theorems of a unit differ, and those of its proofs
+pub record HasDifferentNames (unit : P.Unit) : Type 0 where
+  pub theorems : AreDifferent (theorem_names unit)
+  pub proofs : AreDifferent (proof_names unit)
+
+-- the names of the units differ, and in each unit those of the theorems and those of the proofs
+pub record IsWellformed (project : P.Project) : Type 0 where
+  pub units : AreDifferent (unit_names project)
+  pub each : All HasDifferentNames project
 
 -- how many steps a script has
 abbrev mutual
@@ -17,28 +39,19 @@ abbrev mutual
   scripts_steps Scripts.none = 0
   scripts_steps (Scripts.more script rest) = script_steps script + scripts_steps rest
 
--- the items declare the name
-pub data Declares : List P.Item → Name → Type 0 where
-  here : {n : Name} {rest : List P.Item} → Declares (P.Item.Pred n [] ∷ rest) n
-  later : {n : Name} {item : P.Item} {rest : List P.Item} → Declares rest n → Declares (item ∷ rest) n
+-- no script has more than 50,000 steps
+abbrev pub HasFewSteps : P.Project → Type 0
+HasFewSteps project = All (λ (unit : P.Unit). All (λ (proof : P.Proof). script_steps proof.script ≤ 50000) unit.proofs) project
 
--- the formula is built of declared names by implications
-pub data IsOver (items : List P.Item) : RawForm → Type 0 where
-  atom : {n : Name} → Declares items n → IsOver items (RawForm.Atom n RawTerms.none)
-  imp : {p q : RawForm} → IsOver items p → IsOver items q → IsOver items (RawForm.Imp p q)
+-- there are at most 500 units
+abbrev pub HasFewUnits : P.Project → Type 0
+HasFewUnits project = length project ≤ 500
 
-abbrev pub items_of : P.Kind → List P.Item
-items_of (P.Kind.Basic items) = items
-items_of _ = []
+-- how many theorems a project has
+abbrev pub theorem_count : List P.Unit → ℕ
+theorem_count [] = 0
+theorem_count (unit ∷ rest) = length unit.theorems + theorem_count rest
 
--- so far a project is one unit, one theorem over it of at most 50,000 nodes, and at most one proof, which is the
--- theorem's
-pub record IsFirst (project : P.Project) : Type 0 where
-  pub unit : P.Unit
-  pub theorem : P.Theorem
-  pub one_unit : project ≡ unit ∷ []
-  pub one_theorem : unit.theorems ≡ theorem ∷ []
-  pub stated : IsOver (items_of unit.kind) theorem.form
-  pub small : raw_form_nodes theorem.form ≤ 50000
-  pub one_proof : length unit.proofs ≤ 1
-  pub its_proof : All (λ (proof : P.Proof). proof.name ≡ theorem.name) unit.proofs
+-- there are at most 5,000 theorems
+abbrev pub HasFewTheorems : P.Project → Type 0
+HasFewTheorems project = theorem_count project ≤ 5000

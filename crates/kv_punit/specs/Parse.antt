@@ -1,9 +1,9 @@
 -- What the readers compute, as functions of the kinds of the tokens. That it is the grammar's is proved.
-use Rattle.std.specs.Prelude.{ℕ, zero, suc, if◌then◌else◌, ◌==◌, List, [], ◌∷◌, ◌++◌, length, Option, Some, None, codes}
+use Rattle.std.specs.Prelude.{ℕ, zero, suc, if◌then◌else◌, List, [], ◌∷◌, ◌++◌, length, Option, Some, None, codes}
 use Rattle.kv_lex.specs.declared.mark.TheConstants.{OPEN_BRACE, CLOSE_BRACE, SEMICOLON, COLON, DOT, EQUAL, BAR}
 use Rattle.kv_lex.specs.declared.token.TokenKind.{TokenKind}
 use Rattle.kv_lex.specs.declared.token.TokenKind.TheVariants.{Word, Ident, Number, Mark}
-use Rattle.kv_pexpr.specs.Parse.{Read, given, or_stay, eat_mark, eat_name}
+use Rattle.kv_pexpr.specs.Parse.{Read, given, or_stay, eat_mark, eat_word, eat_name}
 use Rattle.kv_syn.specs.Trees.{Name}
 use Rattle.kv_syn.specs.Scripts.{Step, Script}
 use Rattle.kv_syn.specs.ScriptBridge.{scripts_of}
@@ -12,15 +12,7 @@ use Rattle.kv_syn.specs.Projects as P
 use Rattle.kv_table.specs.Names.{row_of}
 use Rattle.kv_table.specs.Tables.{rule_rows}
 use Rattle.kv_table.specs.declared.keyword.TheConstants as word
-use Rattle.kv_table.specs.declared.rule.TheConstants as rule
-use Rattle.kv_punit.specs.Grammar.{numbered, path_steps}
-
-abbrev pub eat_word : ℕ → List TokenKind → Option (List TokenKind)
-eat_word w [] = None
-eat_word w (Word k ∷ ts) = if k == w then Some ts else None
-eat_word w (Ident n ∷ ts) = None
-eat_word w (Number k ∷ ts) = None
-eat_word w (Mark k ∷ ts) = None
+use Rattle.kv_punit.specs.Grammar.{numbered, takes_one, takes_two, path_steps, has_colon}
 
 abbrev pub eat_number : List TokenKind → Read ℕ
 eat_number [] = None
@@ -36,18 +28,24 @@ ruled r = given (row_of rule_rows r.0) (λ row. Some (row, r.1))
 abbrev pub eat_rule : List TokenKind → Read ℕ
 eat_rule ts = given (eat_name ts) ruled
 
--- the numbers of a step
-abbrev pub one : ℕ × List TokenKind → Read Step
-one r = Some (numbered rule.IMP_R (r.0 ∷ []), r.1)
+-- the numbers of a step, by its rule
+abbrev pub one : ℕ → ℕ × List TokenKind → Read Step
+one row i = Some (numbered row (i.0 ∷ []), i.1)
 
-abbrev pub two : ℕ → ℕ × List TokenKind → Read Step
-two i r = Some (numbered rule.CLOSE (i ∷ r.0 ∷ []), r.1)
+abbrev pub two : ℕ → ℕ → ℕ × List TokenKind → Read Step
+two row i j = Some (numbered row (i ∷ j.0 ∷ []), j.1)
 
-abbrev pub second : ℕ × List TokenKind → Read Step
-second r = given (eat_number r.1) (two r.0)
+abbrev pub second : ℕ → ℕ × List TokenKind → Read Step
+second row i = given (eat_number i.1) (two row i.0)
+
+abbrev pub one_number : ℕ × List TokenKind → Read Step
+one_number r = given (eat_number r.1) (one r.0)
+
+abbrev pub two_numbers : ℕ × List TokenKind → Read Step
+two_numbers r = given (eat_number r.1) (second r.0)
 
 abbrev pub numbers : ℕ × List TokenKind → Read Step
-numbers r = if r.0 == rule.CLOSE then given (eat_number r.1) second else (if r.0 == rule.IMP_R then given (eat_number r.1) one else None)
+numbers r = if takes_one r.0 then one_number r else (if takes_two r.0 then two_numbers r else None)
 
 abbrev pub step : List TokenKind → Read Step
 step ts = given (eat_rule ts) numbers
@@ -105,6 +103,13 @@ parts (suc k) text ts = or_stay (Some (text, ts)) (part (parts k) text) (separat
 abbrev pub label : List TokenKind → Read Name
 label ts = given (eat_name ts) (λ r. parts (length ts) r.0 r.1)
 
+-- a label without a colon
+abbrev pub without_colon : Name × List TokenKind → Read Name
+without_colon r = if has_colon r.0 then None else Some r
+
+abbrev pub proof_label : List TokenKind → Read Name
+proof_label ts = given (label ts) without_colon
+
 -- behind `pred`
 abbrev pub predicate : (List Item → List TokenKind → Read (List Item)) → List Item → Name × List TokenKind → Read (List Item)
 predicate more done r = given (eat_mark SEMICOLON r.1) (more (done ++ (Item.Pred r.0 [] ∷ [])))
@@ -117,7 +122,7 @@ unfoldable pub items : ℕ → List Item → List TokenKind → Read (List Item)
 items zero done ts = Some (done, ts)
 items (suc k) done ts = or_stay (Some (done, ts)) (item (items k) done) (eat_word word.PRED ts)
 
--- a unit without its theorems and proofs, by its parts
+-- the head of a unit, without its theorems and proofs, by its parts
 abbrev pub ended : Name → List Item × List TokenKind → Read P.Unit
 ended n r = given (eat_word word.END r.1) (λ ts. Some (record { name = n; kind = Kind.Basic r.0; theorems = []; proofs = [] }, ts))
 
@@ -141,11 +146,7 @@ abbrev pub labelled : Name × List TokenKind → Read Proof
 labelled r = given (eat_mark EQUAL r.1) (scripted r.0)
 
 abbrev pub proof : List TokenKind → Read Proof
-proof ts = given (eat_word word.PROOF ts) (λ us. given (label us) labelled)
-
--- the proof that comes first, if there is one
-abbrev pub proofs : List TokenKind → Read (List Proof)
-proofs ts = or_stay (Some ([], ts)) (λ us. given (proof ts) (λ r. Some (r.0 ∷ [], r.1))) (eat_word word.PROOF ts)
+proof ts = given (eat_word word.PROOF ts) (λ us. given (proof_label us) labelled)
 
 -- what stands before the formula of a theorem
 abbrev pub coloned : Name × List TokenKind → Read Name

@@ -1,6 +1,5 @@
 -- What a text is answered with.
-use Rattle.std.specs.Prelude.{ℕ, ◌≡◌, ◌≢◌, ◌≤◌, List, [], ◌∷◌, length, Result, Ok, Err}
-use Rattle.std.specs.List.{All}
+use Rattle.std.specs.Prelude.{ℕ, ◌≡◌, ◌≢◌, List, ◌∷◌, Result, Ok, Err}
 use Rattle.kv_lex.specs.Tokens.{lexed}
 use Rattle.kv_lex.specs.declared.token.Token.{Token}
 use Rattle.kv_lex.specs.declared.token.TokenKind.{TokenKind}
@@ -11,22 +10,20 @@ use Rattle.kv_syn.specs.Projects as P
 use Rattle.kv_syn.specs.declared.projects.Project.{Project}
 use Rattle.kv_table.specs.declared.keyword.TheConstants as word
 use Rattle.kv_punit.specs.Grammar.{IsProject}
-use Rattle.kv_punit.specs.Limits.{IsFirst, script_steps}
+use Rattle.kv_punit.specs.Limits.{IsWellformed, HasFewSteps, HasFewUnits, HasFewTheorems}
 use Rattle.kv_punit.specs.declared.errors.TextError.{TextError}
 use Rattle.kv_punit.specs.declared.errors.TextError.TheVariants as error
 use Rattle.kv_punit.specs.declared.errors.Which.TheVariants.{Steps, Units, Theorems}
 
--- no script has more than 50,000 steps
-abbrev pub HasFewSteps : P.Project → Type 0
-HasFewSteps project = All (λ (unit : P.Unit). All (λ (proof : P.Proof). script_steps proof.script ≤ 50000) unit.proofs) project
-
--- the text is a spelling of the project: its tokens are, and the project keeps what a project keeps so far
+-- the text is a spelling of the project: its tokens are, names differ where they are to, and no limit is passed
 pub record Reads (text : List ℕ) (project : P.Project) : Type 0 where
   pub tokens : List Token
   pub lexes : lexed text ≡ Ok tokens
   pub spelt : IsProject (kinds tokens) project
-  pub first : IsFirst project
-  pub short : HasFewSteps project
+  pub wellformed : IsWellformed project
+  pub few_steps : HasFewSteps project
+  pub few_units : HasFewUnits project
+  pub few_theorems : HasFewTheorems project
 
 -- the answer is a fault of the text, and not want of memory
 abbrev pub IsRefused : Result Project TextError → Type 0
@@ -38,29 +35,26 @@ IsRefused (Err fault) = Unit {0}
 abbrev pub IsOtherVersion : List TokenKind → Type 0
 IsOtherVersion ts = (n : ℕ) × (rest : List TokenKind) × (ts ≡ Word word.PROJECT ∷ Number n ∷ rest) × (n ≢ 1)
 
--- what is answered where these projects are spelt: the one that is a project so far, and of no more steps than the limit
+-- what is answered where these projects are spelt: the one that is wellformed and passes no limit, or the first fault
 abbrev pub Settles : (P.Project → Type 0) → Result Project TextError → Type 0
-Settles Is (Ok project) = Is (plain_project project) × IsFirst (plain_project project) × HasFewSteps (plain_project project)
-Settles Is (Err error.Syntax) = (project : P.Project) → Is project → IsFirst project → ⊥
-Settles Is (Err (error.Limit Steps)) = (project : P.Project) × Is project × IsFirst project × (HasFewSteps project → ⊥)
-Settles Is (Err (error.Limit Units)) = ⊥
-Settles Is (Err (error.Limit Theorems)) = ⊥
+Settles Is (Ok project) = Is (plain_project project) × IsWellformed (plain_project project) × HasFewSteps (plain_project project) × HasFewUnits (plain_project project) × HasFewTheorems (plain_project project)
+Settles Is (Err error.Syntax) = (project : P.Project) → Is project → IsWellformed project → ⊥
+Settles Is (Err (error.Limit Steps)) = (project : P.Project) × Is project × IsWellformed project × (HasFewSteps project → ⊥)
+Settles Is (Err (error.Limit Units)) = (project : P.Project) × Is project × IsWellformed project × HasFewSteps project × (HasFewUnits project → ⊥)
+Settles Is (Err (error.Limit Theorems)) = (project : P.Project) × Is project × IsWellformed project × HasFewSteps project × HasFewUnits project × (HasFewTheorems project → ⊥)
 Settles Is (Err (error.Token place)) = ⊥
 Settles Is (Err error.Version) = ⊥
 Settles Is (Err error.NoMemory) = Unit {0}
 
 -- what is answered to a text: its project, or else the first fault that it has, of these: a byte from which no token
--- reads, another version, no project that its tokens spell, too many steps
+-- reads, another version, no wellformed project that its tokens spell, too many steps in a script, too many units, too
+-- many theorems
 abbrev pub ReadsAs : List ℕ → Result Project TextError → Type 0
 ReadsAs text (Ok project) = Reads text (plain_project project)
 ReadsAs text (Err (error.Token place)) = lexed text ≡ Err place
 ReadsAs text (Err error.Version) = (tokens : List Token) × (lexed text ≡ Ok tokens) × IsOtherVersion (kinds tokens)
 ReadsAs text (Err error.NoMemory) = Unit {0}
 ReadsAs text (Err fault) = (tokens : List Token) × (lexed text ≡ Ok tokens) × (IsOtherVersion (kinds tokens) → ⊥) × Settles (IsProject (kinds tokens)) (Err fault)
-
--- a unit with one theorem and at most one proof
-abbrev pub IsSmall : P.Unit → Type 0
-IsSmall unit = (theorem : P.Theorem) × (unit.theorems ≡ theorem ∷ []) × (length unit.proofs ≤ 1)
 
 -- the same tokens spell no two projects
 abbrev pub OneSpelling : Type 0

@@ -4,6 +4,8 @@
 mod commands;
 mod errors;
 mod labels;
+mod limits;
+mod names;
 mod projects;
 mod scripts;
 mod tokens;

@@ -1,6 +1,6 @@
 // Proof scripts. The rules take the reader of a script as a parameter, so that each is proved by itself.
 
-ghost use Rattle.std.specs.Prelude.{◌≡◌, ◌<◌, [], map, length};
+ghost use Rattle.std.specs.Prelude.{◌≡◌, ◌<◌, [], map, length, IfOk, IfSome};
 ghost use Rattle.kv_syn.specs.ScriptBridge.{plain_script, plain_step};
 ghost use Rattle.kv_table.specs.Names.{row_of};
 ghost use Rattle.kv_table.specs.Tables.{rule_rows};
@@ -10,9 +10,9 @@ ghost use Rattle.kv_punit.specs.Grammar as grammar;
 ghost use Rattle.kv_punit.specs.Nests.{Nests};
 ghost use Rattle.kv_punit.specs.Parse as spec;
 
-use crate::tokens::{eat_mark, eat_word, mark, number};
+use crate::tokens::{mark, number};
 use kv_lex::{Token, TokenKind, mark as row};
-use kv_pexpr::ReadError;
+use kv_pexpr::{ReadError, eat_mark, eat_word};
 use kv_syn::{List, Name, Script, Step, StepText};
 use kv_table::{keyword, rule, rules};
 use std::alloc::Global;
@@ -122,23 +122,51 @@ pub fn step(alloc: Global, tokens: &[Token]) -> Result<(Step, &[Token]), ReadErr
     ensures { Gives (seen plain_step) result (spec.step (kinds tokens.now)) }
 {
     let (row, rest) = rule_row(tokens)?;
-    match row {
-        rule::CLOSE => {
-            let (left, rest) = number(rest)?;
-            let (right, rest) = number(rest)?;
-            let mut numbers = List::new(alloc);
-            numbers.push(left)?;
-            numbers.push(right)?;
-            Ok((numbered(rule::CLOSE, numbers), rest))
-        }
-        rule::IMP_R => {
-            let (place, rest) = number(rest)?;
-            let mut numbers = List::new(alloc);
-            numbers.push(place)?;
-            Ok((numbered(rule::IMP_R, numbers), rest))
-        }
-        _ => Err(ReadError::Syntax),
+    if takes_one(row) {
+        one_number(alloc, row, rest)
+    } else if takes_two(row) {
+        two_numbers(alloc, row, rest)
+    } else {
+        Err(ReadError::Syntax)
     }
+}
+
+/// Whether one number stands behind the word of the rule.
+fn takes_one(row: u32) -> bool
+    ensures { result ≡ grammar.takes_one row }
+{
+    matches!(row, rule::AND_L | rule::AND_R | rule::IMP_L | rule::IMP_R)
+}
+
+/// Whether two numbers stand behind the word of the rule.
+fn takes_two(row: u32) -> bool
+    ensures { result ≡ grammar.takes_two row }
+{
+    row == rule::CLOSE
+}
+
+/// The step of the rule with the number that comes first.
+fn one_number(alloc: Global, row: u32, tokens: &[Token]) -> Result<(Step, &[Token]), ReadError>
+    requires { row < 38 }
+    ensures { Gives (seen plain_step) result (spec.one_number (row, kinds tokens.now)) }
+{
+    let (place, rest) = number(tokens)?;
+    let mut numbers = List::new(alloc);
+    numbers.push(place)?;
+    Ok((numbered(row, numbers), rest))
+}
+
+/// The step of the rule with the two numbers that come first.
+fn two_numbers(alloc: Global, row: u32, tokens: &[Token]) -> Result<(Step, &[Token]), ReadError>
+    requires { row < 38 }
+    ensures { Gives (seen plain_step) result (spec.two_numbers (row, kinds tokens.now)) }
+{
+    let (left, rest) = number(tokens)?;
+    let (right, rest) = number(rest)?;
+    let mut numbers = List::new(alloc);
+    numbers.push(left)?;
+    numbers.push(right)?;
+    Ok((numbered(row, numbers), rest))
 }
 
 /// The step of a rule that has numbers alone.
@@ -156,7 +184,8 @@ fn numbered(rule: u32, numbers: List<u32>) -> Step
 
 /// The row of the rule whose name comes first, and the tokens behind it.
 fn rule_row(tokens: &[Token]) -> Result<(u32, &[Token]), ReadError>
-    ensures { Gives (λ found. (found.0, kinds found.1.now)) result (spec.eat_rule (kinds tokens.now)) }
+    ensures reads { Gives (λ found. (found.0, kinds found.1.now)) result (spec.eat_rule (kinds tokens.now)) }
+    ensures within { IfOk result (λ found. found.0 < 38) }
 {
     let Some((first, rest)) = tokens.split_first() else {
         return Err(ReadError::Syntax);
@@ -172,7 +201,8 @@ fn rule_row(tokens: &[Token]) -> Result<(u32, &[Token]), ReadError>
 
 /// The row of the rule that a name spells.
 fn rule_of(name: &Name) -> Option<u32>
-    ensures { result ≡ row_of rule_rows name.now }
+    ensures value { result ≡ row_of rule_rows name.now }
+    ensures within { IfSome result (λ row. row < 38) }
 {
     match str::from_utf8(name.bytes()) {
         Ok(text) => {

@@ -50,15 +50,15 @@ fn whole_texts(rt: HostRuntime) -> Result<(), Fail> {
         ("project 2 &", Some(TextError::Token { place: 10 })),
         ("project x", FAULT),
         ("", FAULT),
-        ("project 1", FAULT),
+        ("project 1", None),
         ("project 1 unit A basic pred a end theorem t : a;", FAULT),
         (
             "project 1 unit A basic pred unit; end theorem t : unit;",
             FAULT,
         ),
-        ("project 1 unit A basic end theorem t : a;", FAULT),
+        ("project 1 unit A basic end theorem t : a;", None),
         ("project 1 unit A enrich pred a; end theorem t : a;", FAULT),
-        ("project 1 unit A basic pred a; end", FAULT),
+        ("project 1 unit A basic pred a; end", None),
     ];
     for (i, (text, want)) in cases.iter().enumerate() {
         assert!(rt; refused(rt.alloc(), text.as_bytes()) == *want, "case {i}");
@@ -68,7 +68,7 @@ fn whole_texts(rt: HostRuntime) -> Result<(), Fail> {
 
 #[test]
 fn theorems_and_proofs(rt: HostRuntime) -> Result<(), Fail> {
-    let cases: [(&str, Option<TextError>); 26] = [
+    let cases: [(&str, Option<TextError>); 39] = [
         ("theorem t : (a -> b) -> a; proof t = open qed", None),
         ("theorem t : a; proof t = impR 1 qed", None),
         ("theorem t : a; proof t = impR 1; open qed", None),
@@ -81,14 +81,23 @@ fn theorems_and_proofs(rt: HostRuntime) -> Result<(), Fail> {
             "theorem t : a; proof t = impR 1 { impR 2 { open | open } | open } qed",
             None,
         ),
-        ("theorem t : a; proof u = open qed", FAULT),
-        ("theorem t : a; proof t.u = open qed", FAULT),
+        ("proof u = open qed", None),
+        ("theorem t : a; proof t.u.v = open qed", None),
+        ("theorem t : a; proof t:u = open qed", FAULT),
+        ("theorem t : a; proof t.u:v = open qed", FAULT),
+        ("theorem t : a; proof t. = open qed", FAULT),
+        ("theorem t : a; proof t = open qed theorem u : a;", FAULT),
         (
             "theorem t : a; proof t = open qed proof t = open qed",
             FAULT,
         ),
-        ("theorem t : a; theorem u : a;", FAULT),
-        ("theorem t : c;", FAULT),
+        (
+            "theorem t : a; proof t = open qed proof t.t = open qed",
+            None,
+        ),
+        ("theorem t : a; theorem u : a;", None),
+        ("theorem t : a; theorem t : b;", FAULT),
+        ("theorem t : c;", None),
         ("theorem t : a(b);", FAULT),
         ("theorem t : a -> ;", FAULT),
         ("theorem t : [a];", FAULT),
@@ -103,11 +112,98 @@ fn theorems_and_proofs(rt: HostRuntime) -> Result<(), Fail> {
         ("theorem t : a; proof t = impR 1 { open | } qed", FAULT),
         ("theorem t : a; proof t = impR 1 [ open ] qed", FAULT),
         ("theorem t : a; proof t = impR 1; open; open qed", FAULT),
-        ("theorem t : a; proof t = impL 1 qed", FAULT),
+        ("theorem t : a; proof t = andL 1; andL 2 qed", None),
+        ("theorem t : a; proof t = andL qed", FAULT),
+        (
+            "theorem t : a; proof t = andR 1 { open | close 1 1 } qed",
+            None,
+        ),
+        ("theorem t : a; proof t = andR 1 2 qed", FAULT),
+        (
+            "theorem t : a; proof t = impL 1 { open | impR 1 } qed",
+            None,
+        ),
+        ("theorem t : a; proof t = impL L qed", FAULT),
+        ("theorem t : a; proof t = andl 1 qed", FAULT),
+        ("theorem t : a; proof t = orL 1 qed", FAULT),
     ];
     for (i, (text, want)) in cases.iter().enumerate() {
         let whole = repeated(rt.alloc(), text, "", 0, "")?;
         assert!(rt; refused(rt.alloc(), whole.as_bytes()) == *want, "case {i}");
+    }
+    Ok(())
+}
+
+#[test]
+fn units(rt: HostRuntime) -> Result<(), Fail> {
+    let cases: [(&str, Option<TextError>); 8] = [
+        ("project 1 unit A basic end unit B basic end", None),
+        ("project 1 unit A basic end unit A basic end", FAULT),
+        (
+            "project 1 unit A basic end unit B basic end unit A basic end",
+            FAULT,
+        ),
+        (
+            "project 1 unit A basic pred a; end theorem t : a; proof t = open qed unit B basic end theorem t : a; proof t = open qed",
+            None,
+        ),
+        (
+            "project 1 unit A basic end unit B basic end theorem t : a; theorem t : a;",
+            FAULT,
+        ),
+        (
+            "project 1 unit A basic end unit B basic end proof t = open qed proof t = open qed",
+            FAULT,
+        ),
+        (
+            "project 1 unit A basic end theorem t : a; unit B basic end x",
+            FAULT,
+        ),
+        ("project 1 theorem t : a;", FAULT),
+    ];
+    for (i, (text, want)) in cases.iter().enumerate() {
+        assert!(rt; refused(rt.alloc(), text.as_bytes()) == *want, "case {i}");
+    }
+    Ok(())
+}
+
+const DIGITS: [&str; 10] = ["0", "1", "2", "3", "4", "5", "6", "7", "8", "9"];
+
+/// The text, and behind it the part with the numbers from 0 on in it.
+fn counted(
+    alloc: Global,
+    text: &str,
+    begin: &str,
+    count: usize,
+    end: &str,
+) -> Result<String, AllocError> {
+    let mut text = String::from_str(alloc, text)?;
+    for i in 0..count {
+        text.push_str(begin)?;
+        for place in [1000, 100, 10, 1] {
+            text.push_str(DIGITS[i / place % 10])?;
+        }
+        text.push_str(end)?;
+    }
+    Ok(text)
+}
+
+#[test]
+fn counts(rt: HostRuntime) -> Result<(), Fail> {
+    let alloc = rt.alloc();
+    let which = Which::Units;
+    for (count, want) in [(500, None), (501, Some(TextError::Limit { which }))] {
+        let text = counted(alloc, "project 1 ", "unit u", count, " basic end ")?;
+        assert!(rt; refused(alloc, text.as_bytes()) == want, "units {count}");
+    }
+    let which = Which::Theorems;
+    for (count, want) in [
+        (4_999, None),
+        (5_000, None),
+        (5_001, Some(TextError::Limit { which })),
+    ] {
+        let text = counted(alloc, HEAD, "theorem t", count, " : a; ")?;
+        assert!(rt; refused(alloc, text.as_bytes()) == want, "theorems {count}");
     }
     Ok(())
 }
@@ -133,13 +229,13 @@ fn bytes_without_a_token(rt: HostRuntime) -> Result<(), Fail> {
     Ok(())
 }
 
-/// A front of the text is read where the theorem has ended and no proof has begun, or the proof has ended.
+/// A front of the text is read where the version, the unit, the theorem or the proof has ended.
 #[test]
 fn fronts(rt: HostRuntime) -> Result<(), Fail> {
     let text = DEMO.as_bytes();
     for size in 0..text.len() + 1 {
         let want = match size {
-            56 | 57 | 88 | 89 => None,
+            9 | 10 | 36 | 37 | 56 | 57 | 88 | 89 => None,
             52 => Some(TextError::Token { place: 51 }),
             _ => FAULT,
         };

@@ -1,37 +1,12 @@
 // The first of some tokens.
 
 ghost use Rattle.std.specs.Prelude.{◌≡◌};
-ghost use Rattle.std.specs.Option.{option_map};
 ghost use Rattle.kv_pexpr.specs.Gives.{kinds, Gives};
 ghost use Rattle.kv_pexpr.specs.Parse as forms;
 ghost use Rattle.kv_punit.specs.Parse as spec;
 
 use kv_lex::{Token, TokenKind};
-use kv_pexpr::ReadError;
-use kv_syn::{Name, Plain};
-use std::alloc::Global;
-
-/// The tokens behind the mark, if it comes first.
-pub fn eat_mark(tokens: &[Token], mark: u32) -> Option<&[Token]>
-    ensures { option_map (λ rest. kinds rest.now) result ≡ forms.eat_mark mark (kinds tokens.now) }
-{
-    let (first, rest) = tokens.split_first()?;
-    match &first.kind {
-        TokenKind::Mark(m) if *m == mark => Some(rest),
-        _ => None,
-    }
-}
-
-/// The tokens behind the keyword, if it comes first.
-pub fn eat_word(tokens: &[Token], word: u32) -> Option<&[Token]>
-    ensures { option_map (λ rest. kinds rest.now) result ≡ spec.eat_word word (kinds tokens.now) }
-{
-    let (first, rest) = tokens.split_first()?;
-    match &first.kind {
-        TokenKind::Word(w) if *w == word => Some(rest),
-        _ => None,
-    }
-}
+use kv_pexpr::{ReadError, eat_mark, eat_word};
 
 /// The tokens behind the mark. `Syntax` where it doesn't come first.
 pub fn mark(tokens: &[Token], mark: u32) -> Result<&[Token], ReadError>
@@ -45,24 +20,11 @@ pub fn mark(tokens: &[Token], mark: u32) -> Result<&[Token], ReadError>
 
 /// The tokens behind the keyword. `Syntax` where it doesn't come first.
 pub fn word(tokens: &[Token], word: u32) -> Result<&[Token], ReadError>
-    ensures { Gives (λ rest. kinds rest.now) result (spec.eat_word word (kinds tokens.now)) }
+    ensures { Gives (λ rest. kinds rest.now) result (forms.eat_word word (kinds tokens.now)) }
 {
     match eat_word(tokens, word) {
         Some(rest) => Ok(rest),
         None => Err(ReadError::Syntax),
-    }
-}
-
-/// A copy of the name that comes first, and the tokens behind it.
-pub fn name(alloc: Global, tokens: &[Token]) -> Result<(Name, &[Token]), ReadError>
-    ensures { Gives (λ found. (found.0, kinds found.1.now)) result (forms.eat_name (kinds tokens.now)) }
-{
-    let Some((first, rest)) = tokens.split_first() else {
-        return Err(ReadError::Syntax);
-    };
-    match &first.kind {
-        TokenKind::Ident(name) => Ok((name.copy(alloc)?, rest)),
-        _ => Err(ReadError::Syntax),
     }
 }
 

@@ -12,26 +12,43 @@ ghost use Rattle.kv_syn.specs.RawTrees.{RawForm as RawTree};
 ghost use Rattle.kv_syn.specs.Readable.{is_readable_item, is_readable_unit};
 ghost use Rattle.kv_pexpr.specs.Gives.{kinds, Gives};
 ghost use Rattle.kv_pexpr.specs.Grammar.{ReadsForm};
-ghost use Rattle.kv_punit.specs.Gives.{seen, IsThat};
+ghost use Rattle.kv_punit.specs.Ends.{AllTheorems, AllProofs, WholeUnit};
+ghost use Rattle.kv_punit.specs.Gives.{seen, Finds, IsThat};
 ghost use Rattle.kv_punit.specs.Grammar.{IsTheorem};
 ghost use Rattle.kv_punit.specs.Parse as spec;
 
-use crate::labels::label;
+use crate::labels::proof_label;
 use crate::scripts::script;
-use crate::tokens::{eat_word, mark, name, word};
+use crate::tokens::{mark, word};
 use kv_lex::{Token, mark as row};
-use kv_pexpr::{ReadError, formula};
+use kv_pexpr::{ReadError, eat_name, eat_word, formula};
 use kv_syn::{Item, Kind, List, Name, Proof, RawForm, Theorem, Unit};
 use kv_table::keyword;
 use std::alloc::Global;
 
-/// A unit: `unit`, its name, `basic`, its items and `end`. It has no theorems and proofs yet.
-pub fn unit(alloc: Global, tokens: &[Token]) -> Result<(Unit, &[Token]), ReadError>
+/// A unit with its theorems and proofs. `Syntax` also where a theorem stands behind the proofs.
+pub fn whole_unit(alloc: Global, tokens: &[Token]) -> Result<(Unit, &[Token]), ReadError>
+    ensures reads { Finds (seen plain_unit) (WholeUnit (kinds tokens.now)) result }
+    ensures readable { IfOk result (λ found. is_readable_unit found.0 ≡ true) }
+{
+    let (mut unit, rest) = unit(alloc, tokens)?;
+    let (theorems, rest) = theorems(alloc, rest)?;
+    let (proofs, rest) = proofs(alloc, rest)?;
+    if eat_word(rest, keyword::THEOREM).is_some() {
+        return Err(ReadError::Syntax);
+    }
+    unit.theorems = theorems;
+    unit.proofs = proofs;
+    Ok((unit, rest))
+}
+
+/// The head of a unit: `unit`, its name, `basic`, its items and `end`. It has no theorems and proofs yet.
+fn unit(alloc: Global, tokens: &[Token]) -> Result<(Unit, &[Token]), ReadError>
     ensures reads { Gives (seen plain_unit) result (spec.unit (kinds tokens.now)) }
     ensures readable { IfOk result (λ found. is_readable_unit found.0 ≡ true) }
 {
     let rest = word(tokens, keyword::UNIT)?;
-    let (name, rest) = name(alloc, rest)?;
+    let (name, rest) = eat_name(alloc, rest)?;
     let rest = word(rest, keyword::BASIC)?;
     let (items, rest) = items(alloc, rest)?;
     let rest = word(rest, keyword::END)?;
@@ -55,7 +72,7 @@ fn items(alloc: Global, tokens: &[Token]) -> Result<(List<Item>, &[Token]), Read
         let Some(after) = eat_word(rest, keyword::PRED) else {
             return Ok((items, rest));
         };
-        let (name, after) = name(alloc, after)?;
+        let (name, after) = eat_name(alloc, after)?;
         rest = mark(after, row::SEMICOLON)?;
         items.push(Item::Pred {
             name,
@@ -65,8 +82,25 @@ fn items(alloc: Global, tokens: &[Token]) -> Result<(List<Item>, &[Token]), Read
     Ok((items, rest))
 }
 
+/// The theorems that come first, as many as there are.
+fn theorems(alloc: Global, tokens: &[Token]) -> Result<(List<Theorem>, &[Token]), ReadError>
+    ensures { Finds (seen (map plain_theorem)) (AllTheorems (kinds tokens.now)) result }
+{
+    let mut theorems = List::new(alloc);
+    let mut rest = tokens;
+    for _turn in 0..tokens.len() {
+        if eat_word(rest, keyword::THEOREM).is_none() {
+            return Ok((theorems, rest));
+        }
+        let (theorem, after) = theorem(alloc, rest)?;
+        theorems.push(theorem)?;
+        rest = after;
+    }
+    Ok((theorems, rest))
+}
+
 /// A theorem without `simp`.
-pub fn theorem(alloc: Global, tokens: &[Token]) -> Result<(Theorem, &[Token]), ReadError>
+fn theorem(alloc: Global, tokens: &[Token]) -> Result<(Theorem, &[Token]), ReadError>
     ensures found { IfOk result (λ found. IsTheorem (kinds tokens.now) (plain_theorem found.0) (kinds found.1.now)) }
     ensures only { (t : P.Theorem) (us : List KindTree) → IsTheorem (kinds tokens.now) t us → IsThat (seen plain_theorem) result (t, us) }
 {
@@ -85,7 +119,7 @@ fn heading(alloc: Global, tokens: &[Token]) -> Result<(Name, &[Token]), ReadErro
     ensures { Gives (λ found. (found.0, kinds found.1.now)) result (spec.heading (kinds tokens.now)) }
 {
     let rest = word(tokens, keyword::THEOREM)?;
-    let (name, rest) = name(alloc, rest)?;
+    let (name, rest) = eat_name(alloc, rest)?;
     Ok((name, mark(rest, row::COLON)?))
 }
 
@@ -98,16 +132,20 @@ fn statement(alloc: Global, tokens: &[Token]) -> Result<(RawForm, &[Token]), Rea
     Ok((form, mark(&tokens[place..], row::SEMICOLON)?))
 }
 
-/// The proof that comes first, if there is one.
-pub fn proofs(alloc: Global, tokens: &[Token]) -> Result<(List<Proof>, &[Token]), ReadError>
-    ensures { Gives (seen (map plain_proof)) result (spec.proofs (kinds tokens.now)) }
+/// The proofs that come first, as many as there are.
+fn proofs(alloc: Global, tokens: &[Token]) -> Result<(List<Proof>, &[Token]), ReadError>
+    ensures { Finds (seen (map plain_proof)) (AllProofs (kinds tokens.now)) result }
 {
-    if eat_word(tokens, keyword::PROOF).is_none() {
-        return Ok((List::new(alloc), tokens));
-    }
-    let (proof, rest) = proof(alloc, tokens)?;
     let mut proofs = List::new(alloc);
-    proofs.push(proof)?;
+    let mut rest = tokens;
+    for _turn in 0..tokens.len() {
+        if eat_word(rest, keyword::PROOF).is_none() {
+            return Ok((proofs, rest));
+        }
+        let (proof, after) = proof(alloc, rest)?;
+        proofs.push(proof)?;
+        rest = after;
+    }
     Ok((proofs, rest))
 }
 
@@ -116,7 +154,7 @@ fn proof(alloc: Global, tokens: &[Token]) -> Result<(Proof, &[Token]), ReadError
     ensures { Gives (seen plain_proof) result (spec.proof (kinds tokens.now)) }
 {
     let rest = word(tokens, keyword::PROOF)?;
-    let (name, rest) = label(alloc, rest)?;
+    let (name, rest) = proof_label(alloc, rest)?;
     let rest = mark(rest, row::EQUAL)?;
     let (script, rest) = script(alloc, rest)?;
     let rest = word(rest, keyword::QED)?;

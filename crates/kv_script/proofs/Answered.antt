@@ -2,7 +2,7 @@
 use Rattle.std.proofs.Common.{◌≡◌, ◌≢◌, ◌<◌, ◌≤◌, if◌then◌else◌, List, length, Result, Ok, Err, refl, ap, ◌∙◌}
 use Rattle.std.proofs.lemmas.Bool.{lt-ltb, le-ltb}
 use Rattle.kv_prop.specs.Premises.{Gives}
-use Rattle.kv_script.specs.Answers.{Answer, answer, count, step_premises, with_children}
+use Rattle.kv_script.specs.Answers.{answer, count, step_premises, with_children}
 use Rattle.kv_script.specs.Reasons.{refusal_reason, surplus_reason}
 use Rattle.kv_script.proofs.Scripts.{count_of}
 use Rattle.kv_sig.specs.declared.refusals.StepError.{StepError}

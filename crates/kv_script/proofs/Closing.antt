@@ -1,6 +1,6 @@
 -- A closed replay gives a derivation.
 use Rattle.std.proofs.Common.{ℕ, ◌+◌, Bool, true, false, ◌==◌, if◌then◌else◌, List, [], ◌∷◌, ◌++◌, length, Option, Some, None, Result, Ok, Err, ◌≡◌, refl, sym, ap, ◌∙◌, subst, arith}
-use Rattle.std.specs.Prelude.{nat_lt, is_none, IsTrue}
+use Rattle.std.specs.Prelude.{nat_lt, is_none}
 use Rattle.std.proofs.lemmas.Bool.{eqb-true}
 use Rattle.kv_syn.specs.Scripts.{Script, Scripts, Step}
 use Rattle.kv_syn.specs.Trees.{Form, Sequent}
@@ -12,7 +12,7 @@ use Rattle.kv_syn.proofs.Same.{parts}
 use Rattle.kv_sig.specs.Members.{Every}
 use Rattle.kv_sig.specs.declared.flats.Flat.{Flat}
 use Rattle.kv_sig.specs.declared.refusals.StepError.{StepError}
-use Rattle.kv_calc.specs.Calculus.{Theory, Good, Rule, Deriv, Derivs, root_of, roots_of, Valid, AllValid, IsDeriv, Derivable, alone}
+use Rattle.kv_calc.specs.Calculus.{Theory, Good, Rule, Deriv, Derivs, roots_of, AllValid, Derivable, alone}
 use Rattle.kv_calc.specs.Theories.{theory_of}
 use Rattle.kv_prop.specs.Premises.{Premises, premises}
 use Rattle.kv_script.specs.Answers.{Answer, typed_step, typed_premises, step_premises, count, with_children, answer}

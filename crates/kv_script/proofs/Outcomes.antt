@@ -1,12 +1,12 @@
 -- The outcome of a whole replay.
-use Rattle.std.proofs.Common.{ℕ, Bool, zero, suc, ◌+◌, ◌-◌, ◌^◌, min, List, [], ◌∷◌, ◌++◌, map, Option, None, is_none, ◌==◌, ◌&&◌, ◌≡◌, sym, ap, ap₂, ◌∙◌, arith}
+use Rattle.std.proofs.Common.{ℕ, Bool, zero, suc, ◌-◌, ◌^◌, min, List, [], ◌∷◌, ◌++◌, map, Option, None, is_none, ◌==◌, ◌&&◌, ◌≡◌, sym, ap, ap₂, ◌∙◌, arith}
 use Rattle.std.proofs.lemmas.Bool.{ne_eqb}
-use Rattle.kv_script.specs.Events.{Event, outcome_of, first_fault, goal_count, goal_sequent, is_closed, used_labels, asked_looks}
+use Rattle.kv_script.specs.Events.{Event, outcome_of, first_fault, goal_count, goal_sequent, is_closed}
 use Rattle.kv_script.specs.Once.{names_once, looks_once}
 use Rattle.kv_script.specs.Tallies.{Told}
 use Rattle.kv_script.specs.declared.tally.Tally.{Tally}
 use Rattle.kv_script.proofs.Told.{no_uses, no_looks}
-use Rattle.kv_syn.specs.Bridge.{plain_form, plain_sequent}
+use Rattle.kv_syn.specs.Bridge.{plain_form}
 use Rattle.kv_syn.specs.Trees as P
 use Rattle.kv_syn.specs.Trees.{Name}
 use Rattle.kv_syn.specs.declared.outcomes.Look.{Look}

@@ -1,12 +1,12 @@
 -- What was told of the premises before a place, and what is left.
-use Rattle.std.proofs.Common.{ℕ, ◌+◌, ◌-◌, ◌^◌, ◌<◌, ◌≤◌, min, List, [], ◌∷◌, ◌++◌, length, map, get_or, drop, ◌≡◌, refl, sym, ap, ap₂, ◌∙◌, subst, arith, append_assoc}
+use Rattle.std.proofs.Common.{ℕ, ◌+◌, ◌^◌, ◌<◌, ◌≤◌, List, [], ◌∷◌, ◌++◌, length, map, get_or, drop, ◌≡◌, refl, sym, ap, ap₂, ◌∙◌, subst, arith, append_assoc}
 use Rattle.std.proofs.Math.ListN.{drop_of_length-le}
 use Rattle.std.proofs.lemmas.List.{append-nil}
 use Rattle.kv_script.specs.Events.{Event, child_path, events, events_below, visits}
 use Rattle.kv_script.specs.Tallies.{Told}
 use Rattle.kv_script.specs.declared.tally.Tally.{Tally}
 use Rattle.kv_script.proofs.Paths.{drop_here}
-use Rattle.kv_script.proofs.Told.{visits_append, told_append, told_nothing, told_goal}
+use Rattle.kv_script.proofs.Told.{visits_append, told_append, told_nothing}
 use Rattle.kv_syn.specs.Bridge.{plain_sequent}
 use Rattle.kv_syn.specs.ScriptBridge.{plain_script, plain_scripts}
 use Rattle.kv_syn.specs.Scripts.{Scripts}

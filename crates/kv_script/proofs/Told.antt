@@ -1,6 +1,5 @@
 -- Events told one after another.
-use Rattle.std.proofs.Common.{ℕ, ◌+◌, ◌-◌, ◌^◌, ◌<◌, ◌≤◌, min, List, [], ◌∷◌, ◌++◌, Option, Some, None, Ok, Err, ◌≡◌, refl, sym, ap, ◌∙◌, arith, append_assoc}
-use Rattle.kv_script.specs.Answers.{Answer}
+use Rattle.std.proofs.Common.{ℕ, ◌+◌, ◌-◌, ◌^◌, ◌<◌, min, List, [], ◌∷◌, ◌++◌, Option, Some, None, Ok, Err, ◌≡◌, refl, sym, ap, ◌∙◌, arith}
 use Rattle.kv_script.specs.Events.{Event, goal_count, first_fault, used_labels, asked_looks, visits}
 use Rattle.kv_script.specs.Tallies.{or_first, Told}
 use Rattle.kv_script.specs.declared.tally.Tally.{Tally}

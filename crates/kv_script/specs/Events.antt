@@ -1,5 +1,5 @@
 -- What is met in a script in preorder, and what a replay tells of it.
-use Rattle.std.specs.Prelude.{ℕ, ◌+◌, ◌-◌, ◌^◌, min, Bool, ◌&&◌, ◌==◌, List, [], ◌∷◌, ◌++◌, Option, Some, None, is_none, Ok, Err, ◌≡◌}
+use Rattle.std.specs.Prelude.{ℕ, ◌+◌, ◌-◌, ◌^◌, min, Bool, ◌&&◌, ◌==◌, List, [], ◌∷◌, ◌++◌, Option, Some, None, is_none, Ok, Err}
 use Rattle.kv_script.specs.Answers.{Answer, answer}
 use Rattle.kv_script.specs.Once.{names_once, looks_once}
 use Rattle.kv_syn.specs.Scripts.{Script, Scripts, Step}

@@ -1,5 +1,5 @@
 -- Events that are told to a tally.
-use Rattle.std.specs.Prelude.{ℕ, ◌+◌, ◌-◌, ◌^◌, min, List, map, Option, Some, None, Ok, Err, Result, ◌≡◌}
+use Rattle.std.specs.Prelude.{◌+◌, ◌-◌, ◌^◌, min, List, map, Option, Some, None, Ok, Err, Result, ◌≡◌}
 use Rattle.kv_script.specs.Answers.{Answer}
 use Rattle.kv_script.specs.Events.{Event, goal_count, first_fault}
 use Rattle.kv_script.specs.declared.tally.Tally.{Tally}

@@ -13,3 +13,7 @@ with_item items place item = slice_set items (place - 1) item
 -- the list without the item at a place
 abbrev pub without_item : {T : Type 0} → List T → ℕ → List T
 without_item items place = take (place - 1) items ++ drop place items
+
+-- the list with these items in place of the item at a place
+abbrev pub with_items : {T : Type 0} → List T → ℕ → List T → List T
+with_items items place new = take (place - 1) items ++ new ++ drop place items

@@ -4,6 +4,7 @@
 //! `reason` name the rows, for use in patterns.
 #![tactic(auto)]
 
+mod by_row;
 pub mod command;
 pub mod keyword;
 mod names;

@@ -1,6 +1,6 @@
 // Each table, row by row: its words, and the names of its rows.
 
-use crate::{Names, command, keyword, reason, rule, state};
+use crate::{Names, by_row, command, keyword, reason, rule, state};
 use std::process::Abort;
 
 fn walk<const N: usize>(rt: &impl Abort, table: &Names<N>, rows: &[(u32, &str)]) {
@@ -195,4 +195,35 @@ fn reason_rows(rt: HostRuntime) {
         (reason::SURPLUS, "surplus"),
     ];
     walk(&rt, &crate::reasons(), &rows);
+}
+
+/// What a word of a formula joins.
+fn joins(row: u32) -> &'static str {
+    by_row!(keyword, row; { AND => "two", OR => "two", NOT => "one" } else "none")
+}
+
+/// How many numbers a rule asks for, where that is how many there are.
+fn asked(row: u32, numbers: &[u32]) -> Option<usize> {
+    by_row!(rule, row, numbers; {
+        CLOSE [_, _] => Some(2),
+        IMP_R [_] => Some(1),
+    } else None)
+}
+
+#[test]
+fn cases_by_row(rt: HostRuntime) {
+    let cases = [
+        (keyword::AND, "two"),
+        (keyword::OR, "two"),
+        (keyword::NOT, "one"),
+        (keyword::ALL, "none"),
+        (99, "none"),
+    ];
+    for (row, wanted) in cases {
+        assert_eq!(rt; joins(row), wanted);
+    }
+    assert_eq!(rt; asked(rule::CLOSE, &[1, 2]), Some(2));
+    assert_eq!(rt; asked(rule::CLOSE, &[1]), None);
+    assert_eq!(rt; asked(rule::IMP_R, &[1]), Some(1));
+    assert_eq!(rt; asked(rule::IMP_L, &[1]), None);
 }

@@ -3,7 +3,7 @@ use Rattle.kv_elab.specs.Elab.{elab_form}
 use Rattle.kv_elab.specs.Typed.{Gives}
 use Rattle.kv_elab.specs.declared.contexts.Context.{Context}
 use Rattle.kv_fresh.specs.States.{nothing_around}
-use Rattle.kv_fresh.proofs.Goals.{goal_told, ill_told}
+use Rattle.kv_fresh.proofs.Goals.{ill_told}
 use Rattle.kv_syn.specs.Bridge.{plain_form}
 use Rattle.kv_syn.specs.RawBridge.{raw_form}
 use Rattle.kv_fresh.proofs.rows.goal_of.Goals as goal

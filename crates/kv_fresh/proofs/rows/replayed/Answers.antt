@@ -1,8 +1,7 @@
-use Rattle.std.proofs.Common.{◌≡◌, ◌∙◌, IfOk, ap, map, subst, sym}
-use Rattle.kv_fresh.specs.States.{script_of, script_or_open}
+use Rattle.std.proofs.Common.{◌≡◌, ◌∙◌, IfOk, ap, subst, sym}
+use Rattle.kv_fresh.specs.States.{script_or_open}
 use Rattle.kv_script.specs.Events.{outcome_of, replay_events}
 use Rattle.kv_syn.specs.Bridge.{plain_form}
-use Rattle.kv_syn.specs.ProjectBridge.{plain_proof}
 use Rattle.kv_syn.specs.ScriptBridge.{plain_script, plain_script_step}
 use Rattle.kv_syn.specs.Scripts.{Script}
 use Rattle.kv_syn.specs.declared.scripts.Script.TheFolds.{fold-roll-Script}

@@ -10,5 +10,8 @@ returns-then-fuel-eq0-clause-reads t c = read_none _ _ _ _ _ (omega arith)
 pub returns-in-Imp-clause-reads : goal.returns-in-Imp-clause-reads
 returns-in-Imp-clause-reads t c = rw (read_at c.args.fuel c.args.level level.Imp c.args.brackets c.args.height (kinds c.args.tokens.now) (omega arith) c.in-Imp.is) c.imp.ensures.reads
 
+pub returns-in-Con-clause-reads : goal.returns-in-Con-clause-reads
+returns-in-Con-clause-reads t c = rw (read_at c.args.fuel c.args.level level.Con c.args.brackets c.args.height (kinds c.args.tokens.now) (omega arith) c.in-Con.is) c.con.ensures.reads
+
 pub returns-in-Una-clause-reads : goal.returns-in-Una-clause-reads
 returns-in-Una-clause-reads t c = rw (read_at c.args.fuel c.args.level level.Una c.args.brackets c.args.height (kinds c.args.tokens.now) (omega arith) c.in-Una.is) c.una.ensures.reads

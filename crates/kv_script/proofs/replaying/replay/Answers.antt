@@ -2,7 +2,6 @@ use Rattle.std.proofs.Common.{◌≡◌, ap₂, subst}
 use Rattle.kv_script.specs.Events.{events, outcome_of, replay_events}
 use Rattle.kv_script.proofs.Closing.{derives}
 use Rattle.kv_syn.specs.Bridge.{plain_form}
-use Rattle.kv_syn.specs.declared.outcomes.Outcome.{Outcome}
 use Rattle.kv_script.specs.Tallies.{Told}
 use Rattle.kv_script.proofs.Outcomes.{at_start, goal_alone, told_outcome}
 use Rattle.kv_syn.specs.ScriptBridge.{plain_script}
