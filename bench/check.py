@@ -7,16 +7,11 @@ Makes projects of growing size, runs `kivd check` on each, and prints the least 
 for each doubling since the size before, and the greatest peak memory, which can be told only where it passes this
 script's own. Ends with status 1 where an answer isn't the one that was wanted, or where a growth passes the ratio.
 """
-import argparse
 import math
-import os
-import platform
-import resource
 import sys
-import tempfile
-import time
 
-HERE = os.path.dirname(os.path.realpath(__file__))
+import measure
+
 THEOREM = "theorem t{0} : a and b -> b and a;\n"
 PROOF = "proof t{0} = impR 1; andL 1; andR 1 {{ close 2 1 | close 1 1 }} qed\n"
 
@@ -97,62 +92,25 @@ FAMILIES = [
 ]
 
 
-def run(kivd, path):
-    """Seconds, peak memory in MB, exit code and output of one call."""
-    read, write = os.pipe()
-    begin = time.monotonic()
-    child = os.fork()
-    if child == 0:
-        os.dup2(write, 1)
-        os.close(read)
-        os.execv(kivd, [kivd, "check", path])
-    os.close(write)
-    with os.fdopen(read, "rb") as output:
-        answer = output.read()
-    _, code, usage = os.wait4(child, 0)
-    return time.monotonic() - begin, usage.ru_maxrss / 1024, os.waitstatus_to_exitcode(code), answer.decode()
-
-
-def memory(peak):
-    """The peak of a call in MB. What a call used before it became kivd, as a copy of this process, counts too."""
-    own = resource.getrusage(resource.RUSAGE_SELF).ru_maxrss / 1024
-    return f"{peak:.0f}" if peak > 1.05 * own else f"at most {own:.0f}"
-
-
-def machine():
-    model = platform.machine()
-    with open("/proc/cpuinfo") as info:
-        for line in info:
-            if line.startswith("model name"):
-                model = line.split(":", 1)[1].strip()
-                break
-    return f"{model}, {os.cpu_count()} processors, {platform.system()} {platform.release()}"
-
-
 def main():
-    parser = argparse.ArgumentParser()
-    parser.add_argument("--kivd", default=os.path.join(HERE, "../crates/kivd/out/kivd"))
-    parser.add_argument("--runs", type=int, default=5)
+    parser = measure.words("How kivd check grows with the project.")
     parser.add_argument("--most", type=float, default=2.6)
     words = parser.parse_args()
     bad = 0
-    print(machine())
+    print(measure.machine())
     print("| What grows | Size | Text, bytes | Time, ms | Growth for a doubling | Peak memory, MB |")
     print("|---|---|---|---|---|---|")
     for what, make, sizes in FAMILIES:
         before = None
         for size in sizes:
             text, wanted = make(size)
-            with tempfile.NamedTemporaryFile("w", suffix=".kiv") as file:
-                file.write(text)
-                file.flush()
-                calls = [run(words.kivd, file.name) for _ in range(words.runs)]
+            calls = measure.calls(words.kivd, words.runs, "check", text)
             for _, _, code, answer in calls:
                 if code != 0 or answer != wanted:
                     print(f"{what}, {size}: status {code}, not the wanted answer", file=sys.stderr)
                     bad = 1
             seconds = min(call[0] for call in calls)
-            peak = memory(max(call[1] for call in calls))
+            peak = measure.memory(max(call[1] for call in calls))
             growth = ""
             if before is not None:
                 ratio = (seconds / before[1]) ** (1 / math.log2(size / before[0]))

@@ -1,3 +1,6 @@
+pub mod Framing
+pub mod Lines
 pub mod Memory
 pub mod Outside
+pub mod Reading
 pub mod Standard

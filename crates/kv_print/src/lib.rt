@@ -1,9 +1,14 @@
-//! How states and reasons are written.
+//! How projects, scripts, states and reasons are written.
 #![tactic(auto)]
 
+mod forms;
 mod pieces;
+mod projects;
+mod scripts;
 mod states;
 
+pub use projects::project_text;
+pub use scripts::script_text;
 pub use states::{reason_text, state_text};
 
 #[cfg(test)]

@@ -6,6 +6,7 @@ use Rattle.std.proofs.lemmas.Bool.{le-leb}
 use Rattle.std.proofs.lemmas.Bool.Decides.{leb_tells}
 use Rattle.std.proofs.lemmas.List.Elements.{All-nil, All-cons, All-head, All-tail}
 use Rattle.kv_syn.specs.Projects as P
+use Rattle.kv_punit.specs.Commands.{Command, HasShortScript}
 use Rattle.kv_punit.specs.Limits.{HasFewSteps, script_steps}
 use Rattle.kv_punit.specs.Tests as test
 
@@ -44,3 +45,15 @@ few_test (u ∷ us) all = rw (steps_test u.proofs (All-head ShortProofs u us all
 
 pub few_not : (units : P.Project) → test.has_few_steps units ≡ false → HasFewSteps units → ⊥
 few_not units e few = absurd (let f = few_test units few in cc)
+
+pub le_not : (a b : ℕ) → nat_le a b ≡ false → a ≤ b → ⊥
+le_not a b e below = absurd (let f = le-leb a b below in cc)
+
+-- the script of a command
+pub short_from : (c : Command) → test.has_short_script c ≡ true → HasShortScript c
+short_from (Command.Proof unit proof) e = le_from (script_steps proof.script) 50000 e
+short_from other e = tt
+
+pub short_not : (c : Command) → test.has_short_script c ≡ false → HasShortScript c → ⊥
+short_not (Command.Proof unit proof) e short = le_not (script_steps proof.script) 50000 e short
+short_not other e short = absurd (cc)

@@ -9,9 +9,10 @@ use Rattle.kv_syn.specs.Trees.{Name}
 use Rattle.kv_syn.specs.Scripts.{Step, Script, Scripts}
 use Rattle.kv_syn.specs.ScriptBridge.{scripts_of}
 use Rattle.kv_syn.specs.Projects.{Proof, Item}
+use Rattle.kv_syn.specs.Projects as P
 use Rattle.kv_table.specs.declared.keyword.TheConstants as word
 use Rattle.kv_punit.specs.Grammar as g
-use Rattle.kv_punit.specs.Grammar.{IsStep, IsScript, AreScripts, IsLabel, AreItems, IsProof, path_steps}
+use Rattle.kv_punit.specs.Grammar.{IsStep, IsScript, AreScripts, IsLabel, AreItems, IsLabelled, IsProof, IsHead}
 use Rattle.kv_punit.specs.Parse as spec
 use Rattle.kv_punit.proofs.Steps.{two_not_one}
 use Rattle.kv_punit.proofs.Turns.{script_hole}
@@ -147,8 +148,11 @@ exact_label {ts} {us} {l} r stop =
     let p = exact_parts r stop in
     label_by ts us p.rest l p.first p.more p.begins p.whole (p.reads (length (Ident p.first ∷ p.rest)) p.first (omega arith))
 
+pub exact_labelled : {ts us : List TokenKind} {p : Proof} → IsLabelled ts p us → Ends us → spec.labelled ts ≡ Some (p, us)
+exact_labelled (g.labelled l plain s) stop = rw (exact_label l refl, plain, exact_script s stop)
+
 pub exact_proof : {ts us : List TokenKind} {p : Proof} → IsProof ts p us → spec.proof ts ≡ Some (p, us)
-exact_proof (g.proof l plain s) = rw (exact_label l refl, plain, exact_script s (record { no_semicolon = refl; no_brace = refl }))
+exact_proof (g.proof r) = rw (exact_labelled r (record { no_semicolon = refl; no_brace = refl }))
 
 -- the items that are left are read, wherever there are turns enough
 items_none : (us : List TokenKind) → eat_word word.PRED us ≡ None → (k : ℕ) (done : List Item) → length us ≤ k → spec.items k done us ≡ Some (done ++ [], us)
@@ -163,3 +167,6 @@ exact_items (g.none {us = us}) stop k done fits = items_none us stop k done fits
 exact_items (g.pred r) stop zero done fits = absurd (omega arith)
 exact_items (g.pred {n = n} {ts = ts} {us = us} {items = list} r) stop (suc k) done fits =
     exact_items r stop k (done ++ (Item.Pred n [] ∷ [])) (omega arith) ∙ ap (λ l. Some (l, us)) (append_assoc done (Item.Pred n [] ∷ []) list)
+
+pub exact_head : {ts us : List TokenKind} {u : P.Unit} → IsHead ts u us → spec.head ts ≡ Some (u, us)
+exact_head (g.head {ts = ts} is) = rw (exact_items is refl (length ts) [] (omega arith))

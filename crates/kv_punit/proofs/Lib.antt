@@ -12,3 +12,7 @@ pub mod Differing
 pub mod Settled
 pub mod One
 pub mod Texts
+pub mod Alone
+pub mod Asked
+pub mod Lone
+pub mod Theorems

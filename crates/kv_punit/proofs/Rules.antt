@@ -1,4 +1,4 @@
--- A name that spells a rule is UTF-8.
+-- A text that is a row of a table is UTF-8.
 use Rattle.std.proofs.Common.{ℕ, zero, suc, ◌≡◌, ◌<◌, List, [], ◌∷◌, refl, subst, arith, inl, inr}
 use Rattle.std.specs.Prelude.{Bool, true, nat_le, Option, Some, None, ◌⊎◌, slice_get}
 use Rattle.std.specs.List.{All, list_all}
@@ -9,13 +9,9 @@ use Rattle.std.proofs.lemmas.Str.{IsUtf8-from_ascii}
 use Rattle.std.proofs.lemmas.Str.Ascii.{IsAscii-from_all}
 use Rattle.kv_pexpr.proofs.Steps.{some_is}
 use Rattle.kv_table.specs.Names.{row_of}
-use Rattle.kv_table.specs.Tables.{rule_rows}
-use Rattle.kv_punit.proofs.Steps.{spelt_row}
+use Rattle.kv_table.proofs.Lookup.{found_row}
+use Rattle.kv_punit.specs.Tests.{are_ascii}
 use Rattle.kv_punit.proofs.Checks.{and_true, le_from}
-
-ascii_rows : list_all (list_all (λ c. nat_le c 127)) rule_rows ≡ true
-unfolding rule_rows
-ascii_rows = refl
 
 passes_at : (p : List ℕ → Bool) (xs : List (List ℕ)) (i : ℕ) (x : List ℕ) → list_all p xs ≡ true → slice_get xs i ≡ Some x → p x ≡ true
 passes_at p [] i x e f = absurd (omega (arith, slice_get_within [] i x f))
@@ -35,8 +31,9 @@ none_or : {A : Type 0} (o : Option A) → (o ≡ None) ⊎ ((x : A) × (o ≡ So
 none_or None = inl refl
 none_or (Some x) = inr (x, refl)
 
-pub no_rule : (n : List ℕ) → (IsUtf8 n → ⊥) → row_of rule_rows n ≡ None
-no_rule n bad = elim (none_or (row_of rule_rows n)) [
+-- a text that isn't UTF-8 is no row of ASCII
+pub no_row : (rows : List (List ℕ)) (n : List ℕ) → are_ascii rows ≡ true → (IsUtf8 n → ⊥) → row_of rows n ≡ None
+no_row rows n ascii bad = elim (none_or (row_of rows n)) [
   | inl e ↦ e
-  | inr r ↦ absurd (bad (IsUtf8-from_ascii n (IsAscii-from_all n (all_ascii n (passes_at (list_all (λ c. nat_le c 127)) rule_rows r.0 n ascii_rows (spelt_row n r.0 r.1))))))
+  | inr r ↦ absurd (bad (IsUtf8-from_ascii n (IsAscii-from_all n (all_ascii n (passes_at (list_all (λ c. nat_le c 127)) rows r.0 n ascii (found_row rows n r.0 r.1))))))
 ]

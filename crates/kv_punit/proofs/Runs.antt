@@ -15,7 +15,7 @@ use Rattle.kv_syn.specs.Projects as P
 use Rattle.kv_punit.specs.Ends.{NoTheorem, NoProof, Ends, AllTheorems, AllProofs, WholeUnit}
 use Rattle.kv_punit.specs.Gives.{Finds, IsThat}
 use Rattle.kv_punit.specs.Grammar as g
-use Rattle.kv_punit.specs.Grammar.{Are, IsTheorem, IsProof, IsUnit, IsLabel, AreItems, AreTheorems, AreProofs, AreUnits}
+use Rattle.kv_punit.specs.Grammar.{Are, IsStatement, IsTheorem, IsLabelled, IsProof, IsHead, IsUnit, IsLabel, AreItems, AreTheorems, AreProofs, AreUnits}
 use Rattle.kv_punit.specs.Parse as spec
 use Rattle.kv_punit.proofs.Exact.{exact_proof, script_takes}
 use Rattle.kv_punit.proofs.Sound.{sound_proof}
@@ -30,16 +30,22 @@ Any us = Unit {0}
 
 -- ---- how many tokens a reading takes
 
+statement_takes : {ts us : List TokenKind} {t : Theorem} → IsStatement ts t us → length us < length ts
+statement_takes (g.statement r) = omega (arith, imp_takes r.0)
+
 pub theorem_takes : {ts us : List TokenKind} {t : Theorem} → IsTheorem ts t us → length us < length ts
-theorem_takes (g.theorem r) = omega (arith, imp_takes r.0)
+theorem_takes (g.theorem r) = omega (arith, statement_takes r)
 
 label_takes : {ts us : List TokenKind} {l : Name} → IsLabel ts l us → length us < length ts
 label_takes g.name = omega arith
 label_takes (g.dot r) = omega (arith, label_takes r)
 label_takes (g.colon r) = omega (arith, label_takes r)
 
+labelled_takes : {ts us : List TokenKind} {p : Proof} → IsLabelled ts p us → length us < length ts
+labelled_takes (g.labelled l plain s) = omega (arith, label_takes l, script_takes s)
+
 pub proof_takes : {ts us : List TokenKind} {p : Proof} → IsProof ts p us → length us < length ts
-proof_takes (g.proof l plain s) = omega (arith, label_takes l, script_takes s)
+proof_takes (g.proof r) = omega (arith, labelled_takes r)
 
 items_take : {ts us : List TokenKind} {l : List Item} → AreItems ts l us → length us ≤ length ts
 items_take g.none = omega arith
@@ -53,8 +59,11 @@ proofs_take : {ts us : List TokenKind} {l : List Proof} → AreProofs ts l us �
 proofs_take g.none = omega arith
 proofs_take (g.more r rs) = omega (arith, proof_takes r, proofs_take rs)
 
+head_takes : {ts us : List TokenKind} {u : P.Unit} → IsHead ts u us → length us < length ts
+head_takes (g.head is) = omega (arith, items_take is)
+
 pub unit_takes : {ts us : List TokenKind} {u : P.Unit} → IsUnit ts u us → length us < length ts
-unit_takes (g.unit is theorems proofs) = omega (arith, items_take is, theorems_take theorems, proofs_take proofs)
+unit_takes (g.unit is theorems proofs) = omega (arith, head_takes is, theorems_take theorems, proofs_take proofs)
 
 -- ---- theorems
 
@@ -108,11 +117,11 @@ module _ (ts rest : List TokenKind) (done : List P.Unit) (leads : Leads IsUnit N
 -- ---- the parts of a unit
 
 module _ (ts : List TokenKind) where
-  pub no_head : {X Y : Type 0} (view : X → P.Unit × List TokenKind) (seen : Y → P.Unit × List TokenKind) (e : ReadError) → Gives view (Err e) (spec.unit ts) → Finds seen (WholeUnit ts) (Err e)
+  pub no_head : {X Y : Type 0} (view : X → P.Unit × List TokenKind) (seen : Y → P.Unit × List TokenKind) (e : ReadError) → Gives view (Err e) (spec.head ts) → Finds seen (WholeUnit ts) (Err e)
   no_head view seen reader.Syntax none = λ r all. let p = unit_parts all.0 in absurd (let b = p.begins in cc (b, none))
   no_head view seen reader.NoMemory none = tt
 
-  module _ (head : P.Unit) (vs : List TokenKind) (begins : spec.unit ts ≡ Some (head, vs)) where
+  module _ (head : P.Unit) (vs : List TokenKind) (begins : spec.head ts ≡ Some (head, vs)) where
     same_behind : (u : P.Unit) (us : List TokenKind) → (p : Parts ts u us) → p.vs ≡ vs
     same_behind u us p = ap (λ x. x.1) (some_is (sym p.begins ∙ begins))
 

@@ -9,12 +9,13 @@ use Rattle.kv_pexpr.proofs.Steps.{some_is, given_some, stay_or, mark_some, word_
 use Rattle.kv_syn.specs.Trees.{Name}
 use Rattle.kv_syn.specs.Scripts.{Step, Script, Scripts}
 use Rattle.kv_syn.specs.ScriptBridge.{scripts_of}
-use Rattle.kv_syn.specs.Projects.{Proof, Item}
+use Rattle.kv_syn.specs.Projects.{Proof, Item, Kind}
+use Rattle.kv_syn.specs.Projects as P
 use Rattle.kv_table.specs.Names.{row_of}
 use Rattle.kv_table.specs.Tables.{rule_rows}
 use Rattle.kv_table.specs.declared.keyword.TheConstants as word
 use Rattle.kv_punit.specs.Grammar as g
-use Rattle.kv_punit.specs.Grammar.{IsStep, IsScript, AreScripts, IsLabel, AreItems, IsProof, takes_one, takes_two, path_steps, has_colon}
+use Rattle.kv_punit.specs.Grammar.{IsStep, IsScript, AreScripts, IsLabel, AreItems, IsLabelled, IsProof, IsHead, takes_one, takes_two, path_steps, has_colon}
 use Rattle.kv_punit.specs.Parse as spec
 use Rattle.kv_punit.proofs.Steps.{number_some, cond_some, separator_some}
 
@@ -148,17 +149,22 @@ sound_proof_label ts r e =
     let b = if_plain (has_colon l.0.0) l.0 r l.2 in
     subst (λ (x : Name × List TokenKind). IsLabel ts x.0 x.1 × (has_colon x.0 ≡ false)) b.1 (sound_label ts l.0 l.1, b.0)
 
+pub sound_labelled : (ts : List TokenKind) (r : Proof × List TokenKind) → spec.labelled ts ≡ Some r → IsLabelled ts r.0 r.1
+sound_labelled ts r e =
+    let l = given_some (spec.proof_label ts) spec.equated e in
+    let b = given_some (eat_mark EQUAL l.0.1) (spec.scripted l.0.0) l.2 in
+    let s = given_some (spec.script path_steps b.0) (spec.with_label l.0.0) b.2 in
+    let named = sound_proof_label ts l.0 l.1 in
+    let label = rw (mark_some EQUAL l.0.1 b.0 b.1) at named.0 in
+    subst (λ (x : Proof × List TokenKind). IsLabelled ts x.0 x.1) (some_is s.2) (g.labelled label named.1 (sound_script path_steps b.0 s.0 s.1))
+
 pub sound_proof : (ts : List TokenKind) (r : Proof × List TokenKind) → spec.proof ts ≡ Some r → IsProof ts r.0 r.1
 sound_proof ts r e =
-    let a = given_some (eat_word word.PROOF ts) (λ us. given (spec.proof_label us) spec.labelled) e in
-    let l = given_some (spec.proof_label a.0) spec.labelled a.2 in
-    let b = given_some (eat_mark EQUAL l.0.1) (spec.scripted l.0.0) l.2 in
-    let s = given_some (spec.script path_steps b.0) (spec.closed l.0.0) b.2 in
-    let q = given_some (eat_word word.QED s.0.1) (λ ts. Some (record { name = l.0.0; script = s.0.0 }, ts)) s.2 in
-    let named = sound_proof_label a.0 l.0 l.1 in
-    let label = rw (mark_some EQUAL l.0.1 b.0 b.1) at named.0 in
-    let script = rw (word_some word.QED s.0.1 q.0 q.1) at (sound_script path_steps b.0 s.0 s.1) in
-    rw (word_some word.PROOF ts a.0 a.1) (subst (λ (x : Proof × List TokenKind). IsProof (Word word.PROOF ∷ a.0) x.0 x.1) (some_is q.2) (g.proof label named.1 script))
+    let a = given_some (eat_word word.PROOF ts) (λ us. given (spec.labelled us) spec.closed) e in
+    let p = given_some (spec.labelled a.0) spec.closed a.2 in
+    let q = given_some (eat_word word.QED p.0.1) (λ ts. Some (p.0.0, ts)) p.2 in
+    let is = rw (word_some word.QED p.0.1 q.0 q.1) at (sound_labelled a.0 p.0 p.1) in
+    rw (word_some word.PROOF ts a.0 a.1) (subst (λ (x : Proof × List TokenKind). IsProof (Word word.PROOF ∷ a.0) x.0 x.1) (some_is q.2) (g.proof is))
 
 items_from : (ts us vs ws xs : List TokenKind) (n : Name) (more : List Item) → ts ≡ Word word.PRED ∷ us → us ≡ Ident n ∷ vs → vs ≡ Mark SEMICOLON ∷ ws
     → AreItems ws more xs → AreItems ts (Item.Pred n [] ∷ more) xs
@@ -179,3 +185,27 @@ sound_items (suc k) done ts r e = elim (stay_or (Some (done, ts)) (spec.item (sp
       ))
   | inr a ↦ subst (λ (x : List Item × List TokenKind). (more : List Item) × (x.0 ≡ done ++ more) × AreItems ts more x.1) (some_is a.1) ([], sym (append-nil done), g.none)
 ]
+
+-- what stands behind the items of a head
+ended_some : (n : Name) (i : List Item × List TokenKind) (r : P.Unit × List TokenKind) → spec.ended n i ≡ Some r
+    → (i.1 ≡ Word word.END ∷ r.1) × (record { name = n; kind = Kind.Basic i.0; theorems = []; proofs = [] } ≡ r.0)
+ended_some n i r e =
+    let q = given_some (eat_word word.END i.1) (λ ts. Some (record { name = n; kind = Kind.Basic i.0; theorems = []; proofs = [] }, ts)) e in
+    let f = some_is q.2 in
+    (word_some word.END i.1 q.0 q.1 ∙ ap (λ x. Word word.END ∷ x.1) f, ap (λ x. x.0) f)
+
+head_from : (ts us vs ws xs ys : List TokenKind) (n : Name) (items : List Item) → ts ≡ Word word.UNIT ∷ us → us ≡ Ident n ∷ vs → vs ≡ Word word.BASIC ∷ ws → ys ≡ Word word.END ∷ xs
+    → AreItems ws items ys → IsHead ts (record { name = n; kind = Kind.Basic items; theorems = []; proofs = [] }) xs
+head_from ts us vs ws xs ys n items e f h ends are = rw (e, f, h) (g.head (subst (AreItems ws items) ends are))
+
+pub sound_head : (ts : List TokenKind) (r : P.Unit × List TokenKind) → spec.head ts ≡ Some r → IsHead ts r.0 r.1
+sound_head ts r e =
+    let a = given_some (eat_word word.UNIT ts) (λ us. given (eat_name us) spec.titled) e in
+    let n = given_some (eat_name a.0) spec.titled a.2 in
+    let b = given_some (eat_word word.BASIC n.0.1) (spec.listed n.0.0) n.2 in
+    let i = given_some (spec.items (length b.0) [] b.0) (spec.ended n.0.0) b.2 in
+    let ends = ended_some n.0.0 i.0 r i.2 in
+    let are = sound_items (length b.0) [] b.0 i.0 i.1 in
+    let lists : AreItems b.0 i.0.0 i.0.1 = subst (λ l. AreItems b.0 l i.0.1) (sym are.1) are.2 in
+    subst (λ u. IsHead ts u r.1) ends.1
+    (head_from ts a.0 n.0.1 b.0 r.1 i.0.1 n.0.0 i.0.0 (word_some word.UNIT ts a.0 a.1) (name_some a.0 n.0 n.1) (word_some word.BASIC n.0.1 b.0 b.1) ends.0 lists)

@@ -1,6 +1,6 @@
 -- What an answer of a reader says of the steps before it.
 use Rattle.std.proofs.Common.{ℕ, ◌≡◌, List, [], ◌∷◌, refl, subst, inl, inr}
-use Rattle.std.specs.Prelude.{Bool, true, false, cond, Option, Some, None, ◌⊎◌, slice_get, codes}
+use Rattle.std.specs.Prelude.{Bool, true, false, cond, Option, Some, None, ◌⊎◌, codes}
 use Rattle.std.proofs.lemmas.Bool.Decides.{eqb_tells}
 use Rattle.kv_lex.specs.declared.mark.TheConstants.{COLON, DOT}
 use Rattle.kv_lex.specs.declared.token.TokenKind.{TokenKind}
@@ -8,10 +8,7 @@ use Rattle.kv_lex.specs.declared.token.TokenKind.TheVariants.{Word, Ident, Numbe
 use Rattle.kv_pexpr.specs.Parse.{or_stay, eat_mark}
 use Rattle.kv_pexpr.proofs.Steps.{some_is, stay_or, mark_some}
 use Rattle.kv_syn.specs.Trees.{Name}
-use Rattle.kv_table.specs.Names.{row_of}
-use Rattle.kv_table.specs.Tables.{rule_rows}
 use Rattle.kv_table.specs.declared.rule.TheConstants as rule
-use Rattle.kv_table.proofs.Lookup.{found_row}
 use Rattle.kv_punit.specs.Grammar.{takes_one, takes_two}
 use Rattle.kv_punit.specs.Parse.{eat_number, separator, colon, dot}
 
@@ -32,9 +29,6 @@ two_not_one row two = elim (eqb_tells row rule.CLOSE) [
   | inl t ↦ rw t.1 refl
   | inr t ↦ absurd (let f = rw t.0 at two in cc)
 ]
-
-pub spelt_row : (n : Name) (row : ℕ) → row_of rule_rows n ≡ Some row → slice_get rule_rows row ≡ Some n
-spelt_row n row e = found_row rule_rows n row e
 
 pub separator_some : (ts : List TokenKind) (b : Name × List TokenKind) → separator ts ≡ Some b
     → ((ts ≡ Mark DOT ∷ b.1) × (b.0 ≡ codes ".")) ⊎ ((ts ≡ Mark COLON ∷ b.1) × (b.0 ≡ codes ":"))

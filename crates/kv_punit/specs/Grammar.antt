@@ -1,6 +1,6 @@
--- The grammar of projects so far. Each relation reads: the tokens ts begin with a spelling of the thing, and us are
+-- The grammar of projects and commands so far. Each relation reads: the tokens ts begin with a spelling of the thing, and us are
 -- the tokens behind it.
-use Rattle.std.specs.Prelude.{ℕ, suc, ◌≡◌, ◌==◌, Bool, true, false, List, [], ◌∷◌, ◌++◌, Some, None}
+use Rattle.std.specs.Prelude.{ℕ, suc, ◌≡◌, ◌==◌, Bool, true, false, List, [], ◌∷◌, ◌++◌, Option, Some, None, slice_get}
 use Rattle.std.specs.List.{list_any}
 use Rattle.kv_lex.specs.declared.mark.TheConstants.{OPEN_BRACE, CLOSE_BRACE, SEMICOLON, COLON, DOT, EQUAL, BAR}
 use Rattle.kv_lex.specs.declared.token.TokenKind.{TokenKind}
@@ -11,8 +11,10 @@ use Rattle.kv_syn.specs.RawTrees.{RawForm}
 use Rattle.kv_syn.specs.Scripts.{Step, StepText, Script, Scripts}
 use Rattle.kv_syn.specs.Projects.{Theorem, Proof, Item, Kind, Project}
 use Rattle.kv_syn.specs.Projects as P
+use Rattle.kv_punit.specs.Commands.{Command}
 use Rattle.kv_table.specs.Names.{row_of}
-use Rattle.kv_table.specs.Tables.{rule_rows}
+use Rattle.kv_table.specs.Tables.{command_rows, keyword_rows, rule_rows}
+use Rattle.kv_table.specs.declared.command.TheConstants as asked
 use Rattle.kv_table.specs.declared.keyword.TheConstants as word
 use Rattle.kv_table.specs.declared.rule.TheConstants as rule
 
@@ -62,10 +64,14 @@ pub data AreItems : List TokenKind → List Item → List TokenKind → Type 0 w
   pred : {n : Name} {ts us : List TokenKind} {items : List Item}
       → AreItems ts items us → AreItems (Word word.PRED ∷ Ident n ∷ Mark SEMICOLON ∷ ts) (Item.Pred n [] ∷ items) us
 
--- theorem = "theorem" name ":" form ";"
+-- statement = name ":" form
+pub data IsStatement : List TokenKind → Theorem → List TokenKind → Type 0 where
+  statement : {n : Name} {ts us : List TokenKind} {f : RawForm} → ReadsForm ts f us
+      → IsStatement (Ident n ∷ Mark COLON ∷ ts) (record { name = n; simp = false; form = f }) us
+
+-- theorem = "theorem" statement ";"
 pub data IsTheorem : List TokenKind → Theorem → List TokenKind → Type 0 where
-  theorem : {n : Name} {ts us : List TokenKind} {f : RawForm} → ReadsForm ts f (Mark SEMICOLON ∷ us)
-      → IsTheorem (Word word.THEOREM ∷ Ident n ∷ Mark COLON ∷ ts) (record { name = n; simp = false; form = f }) us
+  theorem : {ts us : List TokenKind} {t : Theorem} → IsStatement ts t (Mark SEMICOLON ∷ us) → IsTheorem (Word word.THEOREM ∷ ts) t us
 
 abbrev pub path_steps : ℕ
 path_steps = 500
@@ -74,11 +80,14 @@ path_steps = 500
 abbrev pub has_colon : Name → Bool
 has_colon label = list_any (λ byte. byte == 58) label
 
--- proof = "proof" label "=" script "qed", where the label has no colon
+-- labelled = label "=" script, where the label has no colon
+pub data IsLabelled : List TokenKind → Proof → List TokenKind → Type 0 where
+  labelled : {l : Name} {ts us vs : List TokenKind} {s : Script}
+      → IsLabel ts l (Mark EQUAL ∷ us) → has_colon l ≡ false → IsScript path_steps us s vs → IsLabelled ts (record { name = l; script = s }) vs
+
+-- proof = "proof" labelled "qed"
 pub data IsProof : List TokenKind → Proof → List TokenKind → Type 0 where
-  proof : {l : Name} {ts us vs : List TokenKind} {s : Script}
-      → IsLabel ts l (Mark EQUAL ∷ us) → has_colon l ≡ false → IsScript path_steps us s (Word word.QED ∷ vs)
-      → IsProof (Word word.PROOF ∷ ts) (record { name = l; script = s }) vs
+  proof : {ts us : List TokenKind} {p : Proof} → IsLabelled ts p (Word word.QED ∷ us) → IsProof (Word word.PROOF ∷ ts) p us
 
 -- things one after another, as many as there are
 pub data Are {X : Type 0} (Is : List TokenKind → X → List TokenKind → Type 0) : List TokenKind → List X → List TokenKind → Type 0 where
@@ -91,11 +100,16 @@ AreTheorems = Are IsTheorem
 abbrev pub AreProofs : List TokenKind → List Proof → List TokenKind → Type 0
 AreProofs = Are IsProof
 
--- unit = "unit" name "basic" items "end", and then its theorems and proofs
+-- head = "unit" name "basic" items "end", a unit that has no theorems and proofs
+pub data IsHead : List TokenKind → P.Unit → List TokenKind → Type 0 where
+  head : {n : Name} {ts us : List TokenKind} {items : List Item} → AreItems ts items (Word word.END ∷ us)
+      → IsHead (Word word.UNIT ∷ Ident n ∷ Word word.BASIC ∷ ts) (record { name = n; kind = Kind.Basic items; theorems = []; proofs = [] }) us
+
+-- unit = head { theorem } { proof }
 pub data IsUnit : List TokenKind → P.Unit → List TokenKind → Type 0 where
-  unit : {n : Name} {ts us vs ws : List TokenKind} {items : List Item} {theorems : List Theorem} {proofs : List Proof}
-      → AreItems ts items (Word word.END ∷ us) → AreTheorems us theorems vs → AreProofs vs proofs ws
-      → IsUnit (Word word.UNIT ∷ Ident n ∷ Word word.BASIC ∷ ts) (record { name = n; kind = Kind.Basic items; theorems = theorems; proofs = proofs }) ws
+  unit : {ts us vs ws : List TokenKind} {head : P.Unit} {theorems : List Theorem} {proofs : List Proof}
+      → IsHead ts head us → AreTheorems us theorems vs → AreProofs vs proofs ws
+      → IsUnit ts (record { name = head.name; kind = head.kind; theorems = theorems; proofs = proofs }) ws
 
 -- project = "project" 1 { unit }
 abbrev pub AreUnits : List TokenKind → Project → List TokenKind → Type 0
@@ -103,3 +117,23 @@ AreUnits = Are IsUnit
 
 pub data IsProject : List TokenKind → Project → Type 0 where
   project : {ts : List TokenKind} {p : Project} → AreUnits ts p [] → IsProject (Word word.PROJECT ∷ Number 1 ∷ ts) p
+
+-- what a keyword or a name is written as
+abbrev pub text_of : TokenKind → Option Name
+text_of (Word row) = slice_get keyword_rows row
+text_of (Ident n) = Some n
+text_of (Number i) = None
+text_of (Mark m) = None
+
+-- what stands behind the word of a command
+pub data IsArguments : ℕ → List TokenKind → Command → Type 0 where
+  add : {ts : List TokenKind} {u : P.Unit} → IsHead ts u [] → IsArguments asked.ADD ts (Command.Add u)
+  theorem : {n : Name} {ts : List TokenKind} {t : Theorem} → IsStatement ts t [] → IsArguments asked.THEOREM (Ident n ∷ ts) (Command.Theorem n t)
+  proof : {n : Name} {ts : List TokenKind} {p : Proof} → IsLabelled ts p [] → IsArguments asked.PROOF (Ident n ∷ ts) (Command.Proof n p)
+  status : IsArguments asked.STATUS [] Command.Status
+  save : IsArguments asked.SAVE [] Command.Save
+
+-- command = word arguments, where the word is a keyword or a name in the table of commands
+pub data IsCommand : List TokenKind → Command → Type 0 where
+  command : {k : TokenKind} {n : Name} {row : ℕ} {ts : List TokenKind} {c : Command}
+      → text_of k ≡ Some n → row_of command_rows n ≡ Some row → IsArguments row ts c → IsCommand (k ∷ ts) c

@@ -7,3 +7,5 @@ pub mod ReadsAs
 pub mod Tests
 pub mod Ends
 pub mod Errors
+pub mod Commands
+pub mod Readings

@@ -10,9 +10,9 @@ use Rattle.kv_syn.specs.ScriptBridge.{scripts_of}
 use Rattle.kv_syn.specs.Projects.{Proof, Item, Kind}
 use Rattle.kv_syn.specs.Projects as P
 use Rattle.kv_table.specs.Names.{row_of}
-use Rattle.kv_table.specs.Tables.{rule_rows}
+use Rattle.kv_table.specs.Tables.{command_rows, rule_rows}
 use Rattle.kv_table.specs.declared.keyword.TheConstants as word
-use Rattle.kv_punit.specs.Grammar.{numbered, takes_one, takes_two, path_steps, has_colon}
+use Rattle.kv_punit.specs.Grammar.{numbered, takes_one, takes_two, path_steps, has_colon, text_of}
 
 abbrev pub eat_number : List TokenKind → Read ℕ
 eat_number [] = None
@@ -122,7 +122,7 @@ unfoldable pub items : ℕ → List Item → List TokenKind → Read (List Item)
 items zero done ts = Some (done, ts)
 items (suc k) done ts = or_stay (Some (done, ts)) (item (items k) done) (eat_word word.PRED ts)
 
--- the head of a unit, without its theorems and proofs, by its parts
+-- the head of a unit, by its parts
 abbrev pub ended : Name → List Item × List TokenKind → Read P.Unit
 ended n r = given (eat_word word.END r.1) (λ ts. Some (record { name = n; kind = Kind.Basic r.0; theorems = []; proofs = [] }, ts))
 
@@ -132,29 +132,52 @@ listed n ts = given (items (length ts) [] ts) (ended n)
 abbrev pub titled : Name × List TokenKind → Read P.Unit
 titled r = given (eat_word word.BASIC r.1) (listed r.0)
 
-abbrev pub unit : List TokenKind → Read P.Unit
-unit ts = given (eat_word word.UNIT ts) (λ us. given (eat_name us) titled)
+abbrev pub head : List TokenKind → Read P.Unit
+head ts = given (eat_word word.UNIT ts) (λ us. given (eat_name us) titled)
 
--- a proof, by its parts
-abbrev pub closed : Name → Script × List TokenKind → Read Proof
-closed l r = given (eat_word word.QED r.1) (λ ts. Some (record { name = l; script = r.0 }, ts))
+-- a label and its script, by their parts
+abbrev pub with_label : Name → Script × List TokenKind → Read Proof
+with_label l r = Some (record { name = l; script = r.0 }, r.1)
 
 abbrev pub scripted : Name → List TokenKind → Read Proof
-scripted l ts = given (script path_steps ts) (closed l)
+scripted l ts = given (script path_steps ts) (with_label l)
 
-abbrev pub labelled : Name × List TokenKind → Read Proof
-labelled r = given (eat_mark EQUAL r.1) (scripted r.0)
+abbrev pub equated : Name × List TokenKind → Read Proof
+equated r = given (eat_mark EQUAL r.1) (scripted r.0)
+
+abbrev pub labelled : List TokenKind → Read Proof
+labelled ts = given (proof_label ts) equated
+
+-- a proof, by its parts
+abbrev pub closed : Proof × List TokenKind → Read Proof
+closed r = given (eat_word word.QED r.1) (λ ts. Some (r.0, ts))
 
 abbrev pub proof : List TokenKind → Read Proof
-proof ts = given (eat_word word.PROOF ts) (λ us. given (proof_label us) labelled)
+proof ts = given (eat_word word.PROOF ts) (λ us. given (labelled us) closed)
 
 -- what stands before the formula of a theorem
 abbrev pub coloned : Name × List TokenKind → Read Name
 coloned r = given (eat_mark COLON r.1) (λ ts. Some (r.0, ts))
 
 abbrev pub heading : List TokenKind → Read Name
-heading ts = given (eat_word word.THEOREM ts) (λ us. given (eat_name us) coloned)
+heading ts = given (eat_name ts) coloned
 
 -- the number of the version
 abbrev pub version : List TokenKind → Read ℕ
 version ts = given (eat_word word.PROJECT ts) eat_number
+
+-- the row of the command whose word comes first
+abbrev pub eat_text : List TokenKind → Read Name
+eat_text [] = None
+eat_text (k ∷ ts) = given (text_of k) (λ n. Some (n, ts))
+
+abbrev pub commanded : Name × List TokenKind → Read ℕ
+commanded r = given (row_of command_rows r.0) (λ row. Some (row, r.1))
+
+abbrev pub eat_command : List TokenKind → Read ℕ
+eat_command ts = given (eat_text ts) commanded
+
+-- nothing, where no tokens are left
+abbrev pub end : List TokenKind → Option (Unit {0})
+end [] = Some tt
+end (k ∷ ts) = None

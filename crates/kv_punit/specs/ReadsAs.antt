@@ -26,8 +26,8 @@ pub record Reads (text : List ℕ) (project : P.Project) : Type 0 where
   pub few_theorems : HasFewTheorems project
 
 -- the answer is a fault of the text, and not want of memory
-abbrev pub IsRefused : Result Project TextError → Type 0
-IsRefused (Ok project) = ⊥
+abbrev pub IsRefused : {X : Type 0} → Result X TextError → Type 0
+IsRefused (Ok x) = ⊥
 IsRefused (Err error.NoMemory) = ⊥
 IsRefused (Err fault) = Unit {0}
 

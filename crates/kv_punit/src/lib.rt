@@ -1,4 +1,4 @@
-//! Readers of projects and commands.
+//! Readers of projects, units, scripts and commands.
 #![tactic(auto)]
 
 mod commands;
@@ -7,13 +7,17 @@ mod labels;
 mod limits;
 mod names;
 mod projects;
+mod readers;
 mod scripts;
 mod tokens;
 mod units;
+mod words;
 
 pub use commands::Command;
 pub use errors::{TextError, Which};
+pub use limits::theorem_count;
 pub use projects::{one_project, project};
+pub use readers::{command, one_text, script, unit};
 
 #[cfg(test)]
 mod tests;

@@ -27,7 +27,8 @@ fn is_short_unit(unit: &Unit) -> bool
         .all(|proof| is_short(&proof.script))
 }
 
-fn is_short(script: &Script) -> bool
+/// Whether the script has no more steps than it may have.
+pub fn is_short(script: &Script) -> bool
     ensures { result ≡ nat_le (script_steps (plain_script script.now)) 50000 }
 {
     steps(script) <= SCRIPT_STEPS

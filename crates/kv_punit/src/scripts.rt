@@ -5,15 +5,17 @@ ghost use Rattle.kv_syn.specs.ScriptBridge.{plain_script, plain_step};
 ghost use Rattle.kv_table.specs.Names.{row_of};
 ghost use Rattle.kv_table.specs.Tables.{rule_rows};
 ghost use Rattle.kv_pexpr.specs.Gives.{kinds, Gives};
-ghost use Rattle.kv_punit.specs.Gives.{seen};
+ghost use Rattle.kv_punit.specs.Gives.{seen, Finds};
 ghost use Rattle.kv_punit.specs.Grammar as grammar;
 ghost use Rattle.kv_punit.specs.Nests.{Nests};
 ghost use Rattle.kv_punit.specs.Parse as spec;
+ghost use Rattle.kv_punit.specs.Readings.{IsLoneScript};
 
-use crate::tokens::{mark, number};
+use crate::tokens::{end, mark, number};
+use crate::words::row_of;
 use kv_lex::{Token, TokenKind, mark as row};
 use kv_pexpr::{ReadError, eat_mark, eat_word};
-use kv_syn::{List, Name, Script, Step, StepText};
+use kv_syn::{List, Script, Step, StepText};
 use kv_table::{keyword, rule, rules};
 use std::alloc::Global;
 
@@ -96,6 +98,15 @@ pub fn script(alloc: Global, tokens: &[Token]) -> Result<(Script, &[Token]), Rea
     ensures { Gives (seen plain_script) result (spec.script PATH_STEPS (kinds tokens.now)) }
 {
     script_of(alloc, tokens, PATH_STEPS)
+}
+
+/// A script, where all the tokens spell it.
+pub fn lone_script(alloc: Global, tokens: &[Token]) -> Result<Script, ReadError>
+    ensures { Finds plain_script (IsLoneScript (kinds tokens.now)) result }
+{
+    let (script, rest) = script(alloc, tokens)?;
+    end(rest)?;
+    Ok(script)
 }
 
 /// A script with at most so many steps on a path.
@@ -193,22 +204,17 @@ fn rule_row(tokens: &[Token]) -> Result<(u32, &[Token]), ReadError>
     let TokenKind::Ident(name) = &first.kind else {
         return Err(ReadError::Syntax);
     };
-    match rule_of(name) {
+    match rule_of(name.bytes()) {
         Some(row) => Ok((row, rest)),
         None => Err(ReadError::Syntax),
     }
 }
 
-/// The row of the rule that a name spells.
-fn rule_of(name: &Name) -> Option<u32>
-    ensures value { result ≡ row_of rule_rows name.now }
+/// The row of the rule that the text is.
+#[tactic(auto, unfolding(kv_table::specs::Tables::rule_rows))]
+fn rule_of(text: &[u8]) -> Option<u32>
+    ensures value { result ≡ row_of rule_rows text.now }
     ensures within { IfSome result (λ row. row < 38) }
 {
-    match str::from_utf8(name.bytes()) {
-        Ok(text) => {
-            let row = rules().find(text)?;
-            Some(row as u32)
-        }
-        Err(_) => None,
-    }
+    row_of(&rules(), text)
 }

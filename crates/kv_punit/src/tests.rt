@@ -1,6 +1,6 @@
 // Texts that are read, and texts that aren't.
 
-use crate::{TextError, Which, project};
+use crate::{TextError, Which, command, project, script, unit};
 use std::alloc::{AllocError, Global};
 use std::test::Fail;
 
@@ -306,6 +306,96 @@ fn depths(rt: HostRuntime) -> Result<(), Fail> {
         assert!(rt;
             refused(alloc, wide.as_bytes()) == want,
             "all steps {count}"
+        );
+    }
+    Ok(())
+}
+
+#[test]
+fn commands(rt: HostRuntime) -> Result<(), Fail> {
+    let cases: [(&str, Option<TextError>); 30] = [
+        ("status", None),
+        (" % now\n status % what is", None),
+        ("save", None),
+        ("", FAULT),
+        ("% nothing", FAULT),
+        ("status status", FAULT),
+        ("save 1", FAULT),
+        ("1", FAULT),
+        ("Status", FAULT),
+        ("close", FAULT),
+        ("unit A basic end", FAULT),
+        ("text", FAULT),
+        ("put unit A basic end", FAULT),
+        ("add unit A basic end", None),
+        ("add unit A basic pred a; pred b; end", None),
+        ("add unit A basic end theorem t : a;", FAULT),
+        ("add A", FAULT),
+        ("theorem A t : a -> a", None),
+        ("theorem A t : a -> a;", FAULT),
+        ("theorem A t : a -> ", FAULT),
+        ("theorem A t : (a", FAULT),
+        ("theorem t : a", FAULT),
+        ("theorem A t a", FAULT),
+        ("proof A t = open", None),
+        ("proof A t.u = andR 1 { open | close 1 1 }", None),
+        ("proof A t:u = open", FAULT),
+        ("proof A t = open qed", FAULT),
+        ("proof A t = close 1", FAULT),
+        ("proof t = open", FAULT),
+        ("proof A t = open &", Some(TextError::Token { place: 17 })),
+    ];
+    for (i, (text, want)) in cases.iter().enumerate() {
+        assert!(rt;
+            command(rt.alloc(), text.as_bytes()).err() == *want,
+            "case {i}"
+        );
+    }
+    Ok(())
+}
+
+#[test]
+fn units_and_scripts_alone(rt: HostRuntime) -> Result<(), Fail> {
+    let units: [(&str, Option<TextError>); 4] = [
+        ("unit A basic pred a; end", None),
+        ("unit A basic pred a; end theorem t : a;", FAULT),
+        ("unit A basic pred a;", FAULT),
+        ("", FAULT),
+    ];
+    for (i, (text, want)) in units.iter().enumerate() {
+        assert!(rt;
+            unit(rt.alloc(), text.as_bytes()).err() == *want,
+            "unit {i}"
+        );
+    }
+    let scripts: [(&str, Option<TextError>); 5] = [
+        ("open", None),
+        ("impL 1 { open | close 2 1 }", None),
+        ("open qed", FAULT),
+        ("impR 1;", FAULT),
+        ("", FAULT),
+    ];
+    for (i, (text, want)) in scripts.iter().enumerate() {
+        assert!(rt;
+            script(rt.alloc(), text.as_bytes()).err() == *want,
+            "script {i}"
+        );
+    }
+    Ok(())
+}
+
+#[test]
+fn steps_of_a_command(rt: HostRuntime) -> Result<(), Fail> {
+    let which = Which::Steps;
+    for (count, want) in [(49_999, None), (50_000, Some(TextError::Limit { which }))] {
+        let mut text = String::from_str(rt.alloc(), "proof A t = impR 1 { open")?;
+        for _ in 0..count {
+            text.push_str(" | impR 1")?;
+        }
+        text.push_str("}")?;
+        assert!(rt;
+            command(rt.alloc(), text.as_bytes()).err() == want,
+            "steps {count}"
         );
     }
     Ok(())

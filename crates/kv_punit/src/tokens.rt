@@ -40,3 +40,14 @@ pub fn number(tokens: &[Token]) -> Result<(u32, &[Token]), ReadError>
         _ => Err(ReadError::Syntax),
     }
 }
+
+/// `Syntax` where tokens are left.
+pub fn end(tokens: &[Token]) -> Result<(), ReadError>
+    ensures { Gives (λ _. tt) result (spec.end (kinds tokens.now)) }
+{
+    if tokens.is_empty() {
+        Ok(())
+    } else {
+        Err(ReadError::Syntax)
+    }
+}

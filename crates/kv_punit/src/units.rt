@@ -1,25 +1,24 @@
 // Units, theorems and proofs.
 
-ghost use Rattle.std.specs.Prelude.{◌≡◌, true, List, [], ◌∷◌, IfOk, map, length};
+ghost use Rattle.std.specs.Prelude.{◌≡◌, true, List, [], IfOk, map, length};
 ghost use Rattle.std.specs.List.{list_all};
-ghost use Rattle.kv_lex.specs.declared.mark.TheConstants.{SEMICOLON};
 ghost use Rattle.kv_lex.specs.declared.token.TokenKind.{TokenKind as KindTree};
-ghost use Rattle.kv_lex.specs.declared.token.TokenKind.TheVariants.{Mark as MarkKind};
 ghost use Rattle.kv_syn.specs.ProjectBridge.{plain_item, plain_proof, plain_theorem, plain_unit};
 ghost use Rattle.kv_syn.specs.Projects as P;
 ghost use Rattle.kv_syn.specs.RawBridge.{raw_form};
 ghost use Rattle.kv_syn.specs.RawTrees.{RawForm as RawTree};
 ghost use Rattle.kv_syn.specs.Readable.{is_readable_item, is_readable_unit};
 ghost use Rattle.kv_pexpr.specs.Gives.{kinds, Gives};
-ghost use Rattle.kv_pexpr.specs.Grammar.{ReadsForm};
+ghost use Rattle.kv_pexpr.specs.Grammar.{ReadsForm, Stops};
 ghost use Rattle.kv_punit.specs.Ends.{AllTheorems, AllProofs, WholeUnit};
 ghost use Rattle.kv_punit.specs.Gives.{seen, Finds, IsThat};
-ghost use Rattle.kv_punit.specs.Grammar.{IsTheorem};
+ghost use Rattle.kv_punit.specs.Grammar.{IsLabelled, IsStatement, IsTheorem};
 ghost use Rattle.kv_punit.specs.Parse as spec;
+ghost use Rattle.kv_punit.specs.Readings.{IsLoneHead};
 
 use crate::labels::proof_label;
 use crate::scripts::script;
-use crate::tokens::{mark, word};
+use crate::tokens::{end, mark, word};
 use kv_lex::{Token, mark as row};
 use kv_pexpr::{ReadError, eat_name, eat_word, formula};
 use kv_syn::{Item, Kind, List, Name, Proof, RawForm, Theorem, Unit};
@@ -31,7 +30,7 @@ pub fn whole_unit(alloc: Global, tokens: &[Token]) -> Result<(Unit, &[Token]), R
     ensures reads { Finds (seen plain_unit) (WholeUnit (kinds tokens.now)) result }
     ensures readable { IfOk result (λ found. is_readable_unit found.0 ≡ true) }
 {
-    let (mut unit, rest) = unit(alloc, tokens)?;
+    let (mut unit, rest) = head(alloc, tokens)?;
     let (theorems, rest) = theorems(alloc, rest)?;
     let (proofs, rest) = proofs(alloc, rest)?;
     if eat_word(rest, keyword::THEOREM).is_some() {
@@ -42,9 +41,19 @@ pub fn whole_unit(alloc: Global, tokens: &[Token]) -> Result<(Unit, &[Token]), R
     Ok((unit, rest))
 }
 
+/// A unit without theorems and proofs, where all the tokens spell it.
+pub fn lone_head(alloc: Global, tokens: &[Token]) -> Result<Unit, ReadError>
+    ensures reads { Finds plain_unit (IsLoneHead (kinds tokens.now)) result }
+    ensures readable { IfOk result (λ unit. is_readable_unit unit ≡ true) }
+{
+    let (unit, rest) = head(alloc, tokens)?;
+    end(rest)?;
+    Ok(unit)
+}
+
 /// The head of a unit: `unit`, its name, `basic`, its items and `end`. It has no theorems and proofs yet.
-fn unit(alloc: Global, tokens: &[Token]) -> Result<(Unit, &[Token]), ReadError>
-    ensures reads { Gives (seen plain_unit) result (spec.unit (kinds tokens.now)) }
+fn head(alloc: Global, tokens: &[Token]) -> Result<(Unit, &[Token]), ReadError>
+    ensures reads { Gives (seen plain_unit) result (spec.head (kinds tokens.now)) }
     ensures readable { IfOk result (λ found. is_readable_unit found.0 ≡ true) }
 {
     let rest = word(tokens, keyword::UNIT)?;
@@ -104,8 +113,28 @@ fn theorem(alloc: Global, tokens: &[Token]) -> Result<(Theorem, &[Token]), ReadE
     ensures found { IfOk result (λ found. IsTheorem (kinds tokens.now) (plain_theorem found.0) (kinds found.1.now)) }
     ensures only { (t : P.Theorem) (us : List KindTree) → IsTheorem (kinds tokens.now) t us → IsThat (seen plain_theorem) result (t, us) }
 {
+    let rest = word(tokens, keyword::THEOREM)?;
+    let (theorem, rest) = statement(alloc, rest)?;
+    let rest = mark(rest, row::SEMICOLON)?;
+    Ok((theorem, rest))
+}
+
+/// A statement, where all the tokens spell it.
+pub fn lone_statement(alloc: Global, tokens: &[Token]) -> Result<Theorem, ReadError>
+    ensures { Finds plain_theorem (λ t. IsStatement (kinds tokens.now) t []) result }
+{
+    let (theorem, rest) = statement(alloc, tokens)?;
+    end(rest)?;
+    Ok(theorem)
+}
+
+/// A statement: the name of a theorem, a colon and the longest formula.
+fn statement(alloc: Global, tokens: &[Token]) -> Result<(Theorem, &[Token]), ReadError>
+    ensures found { IfOk result (λ found. IsStatement (kinds tokens.now) (plain_theorem found.0) (kinds found.1.now)) }
+    ensures only { (t : P.Theorem) (us : List KindTree) → IsStatement (kinds tokens.now) t us → Stops us → IsThat (seen plain_theorem) result (t, us) }
+{
     let (name, rest) = heading(alloc, tokens)?;
-    let (form, rest) = statement(alloc, rest)?;
+    let (form, rest) = form(alloc, rest)?;
     let theorem = Theorem {
         name,
         simp: false,
@@ -114,22 +143,21 @@ fn theorem(alloc: Global, tokens: &[Token]) -> Result<(Theorem, &[Token]), ReadE
     Ok((theorem, rest))
 }
 
-/// What stands before the formula of a theorem: its name.
+/// What stands before the formula of a statement: the name.
 fn heading(alloc: Global, tokens: &[Token]) -> Result<(Name, &[Token]), ReadError>
     ensures { Gives (λ found. (found.0, kinds found.1.now)) result (spec.heading (kinds tokens.now)) }
 {
-    let rest = word(tokens, keyword::THEOREM)?;
-    let (name, rest) = eat_name(alloc, rest)?;
+    let (name, rest) = eat_name(alloc, tokens)?;
     Ok((name, mark(rest, row::COLON)?))
 }
 
-/// The formula of a theorem, and the tokens behind the semicolon that ends it.
-fn statement(alloc: Global, tokens: &[Token]) -> Result<(RawForm, &[Token]), ReadError>
-    ensures found { IfOk result (λ found. ReadsForm (kinds tokens.now) (raw_form found.0) (MarkKind SEMICOLON ∷ kinds found.1.now)) }
-    ensures only { (f : RawTree) (us : List KindTree) → ReadsForm (kinds tokens.now) f (MarkKind SEMICOLON ∷ us) → IsThat (seen raw_form) result (f, us) }
+/// The longest formula, and the tokens behind it.
+fn form(alloc: Global, tokens: &[Token]) -> Result<(RawForm, &[Token]), ReadError>
+    ensures found { IfOk result (λ found. ReadsForm (kinds tokens.now) (raw_form found.0) (kinds found.1.now)) }
+    ensures only { (f : RawTree) (us : List KindTree) → ReadsForm (kinds tokens.now) f us → Stops us → IsThat (seen raw_form) result (f, us) }
 {
     let (form, place) = formula(alloc, tokens, 0)?;
-    Ok((form, mark(&tokens[place..], row::SEMICOLON)?))
+    Ok((form, &tokens[place..]))
 }
 
 /// The proofs that come first, as many as there are.
@@ -154,9 +182,25 @@ fn proof(alloc: Global, tokens: &[Token]) -> Result<(Proof, &[Token]), ReadError
     ensures { Gives (seen plain_proof) result (spec.proof (kinds tokens.now)) }
 {
     let rest = word(tokens, keyword::PROOF)?;
-    let (name, rest) = proof_label(alloc, rest)?;
+    let (proof, rest) = labelled(alloc, rest)?;
+    Ok((proof, word(rest, keyword::QED)?))
+}
+
+/// A label and its script, where all the tokens spell them.
+pub fn lone_proof(alloc: Global, tokens: &[Token]) -> Result<Proof, ReadError>
+    ensures { Finds plain_proof (λ p. IsLabelled (kinds tokens.now) p []) result }
+{
+    let (proof, rest) = labelled(alloc, tokens)?;
+    end(rest)?;
+    Ok(proof)
+}
+
+/// A label and its script.
+fn labelled(alloc: Global, tokens: &[Token]) -> Result<(Proof, &[Token]), ReadError>
+    ensures { Gives (seen plain_proof) result (spec.labelled (kinds tokens.now)) }
+{
+    let (name, rest) = proof_label(alloc, tokens)?;
     let rest = mark(rest, row::EQUAL)?;
     let (script, rest) = script(alloc, rest)?;
-    let rest = word(rest, keyword::QED)?;
     Ok((Proof { name, script }, rest))
 }

@@ -12,3 +12,5 @@ pub mod Rows
 pub mod Projects
 pub mod ProjectBridge
 pub mod Same
+pub mod Lending
+pub mod Variables

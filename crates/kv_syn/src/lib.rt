@@ -15,6 +15,7 @@ mod scripts;
 mod symbols;
 mod trees;
 mod units;
+mod variables;
 
 pub use counter::Steps;
 pub use lists::{List, boxed};
@@ -29,3 +30,6 @@ pub use sqlite_items::Boxed;
 pub use symbols::{Callee, Profile, Symbol, Var};
 pub use trees::{Form, Prog, Ref, Sequent, Term};
 pub use units::{Cons, Data, Datum, Gen, Item, Kind, Map, Mod, Proof, Theorem, Unit};
+pub use variables::{
+    form_mentions, is_var, modifies, modifies_any, occurs, prog_mentions, prog_modifies,
+};

@@ -1,6 +1,7 @@
 // Lists, which contracts see as what they hold.
 
-ghost use Rattle.std.specs.Prelude.{◌≡◌, ◌↔◌, [], ◌∷◌, ◌++◌, length, IfOk, IsTrue, OnOk, OnErr, MatchOption};
+ghost use Rattle.std.specs.Prelude.{◌≡◌, ◌↔◌, ◌<◌, Some, [], ◌∷◌, ◌++◌, length, slice_get, IfOk, IsTrue, OnOk, OnErr, MatchOption};
+ghost use Rattle.std.specs.Borrow.{sem};
 
 use crate::memory::NoMemory;
 use crate::plain::Plain;
@@ -26,6 +27,8 @@ impl<T> Model for List<T> {
 }
 
 impl<T> List<T> {
+    ghost use Rattle.kv_syn.specs.Lending.{LendsItem};
+
     /// The empty list. It takes no memory yet.
     pub fn new(alloc: Global) -> List<T>
         ensures { result ≡ [] }
@@ -40,6 +43,15 @@ impl<T> List<T> {
         ensures { result.now ≡ self.now }
     {
         self.items.as_slice()
+    }
+
+    /// Lends the item at a place, counted from 0, to be changed there.
+    pub fn item_mut(&mut self, place: usize) -> &mut T
+        requires { place < length self.old }
+        ensures* lends { sem 𝓛 (LendsItem T.row self.entry place result) }
+        ensures value { slice_get self.old place ≡ Some result.now }
+    {
+        &mut self.items[place]
     }
 
     /// Takes the last item off; None exactly where the list is empty.

@@ -1,2 +1,5 @@
 pub mod Writes
 pub mod Files
+pub mod Turns
+pub mod Loops
+pub mod Calls

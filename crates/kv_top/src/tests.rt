@@ -1,6 +1,6 @@
 // The worked examples, and what a failing outside gives.
 
-ghost use Rattle.std.specs.Prelude.{◌≡◌, ◌<◌, None};
+ghost use Rattle.std.specs.Prelude.{◌≡◌, ◌<◌, ◌≤◌, None};
 
 use crate::{Status, message, run};
 use kv_io::{MemSink, MemSource, MemStore};
@@ -17,6 +17,7 @@ fn counted<L: Ledger>(
     alloc: Global,
     words: &[String],
     store: &mut MemStore,
+    input: &mut MemSource,
     output: &mut MemSink,
     blank: Blank,
 ) -> Status
@@ -25,28 +26,45 @@ fn counted<L: Ledger>(
     requires some { 0 < L.parts }
     requires fresh { store.old.chosen ≡ None }
 {
-    let Ok(mut input) = MemSource::make(alloc, &[], &[], 1) else {
-        return Status::NoMemory;
-    };
     let mut steps = Steps::<L>::start(blank);
-    run(alloc, words, store, &mut input, output, &mut steps)
+    run(alloc, words, store, input, output, &mut steps)
 }
 
 /// A call with the words on these objects, which counts its steps in a ledger of its own.
-fn called(alloc: Global, words: &[String], store: &mut MemStore, output: &mut MemSink) -> Status
+fn called(
+    alloc: Global,
+    words: &[String],
+    store: &mut MemStore,
+    input: &mut MemSource,
+    output: &mut MemSink,
+) -> Status
     requires { store.old.chosen ≡ None }
 {
-    counted::<Brand>(alloc, words, store, output, Blank::new(1))
+    counted::<Brand>(alloc, words, store, input, output, Blank::new(1))
 }
 
-/// `check` of what the store holds.
-fn check(alloc: Global, store: &mut MemStore, output: &mut MemSink) -> Result<Status, AllocError>
+/// A call in that mode.
+pub fn called_as(
+    alloc: Global,
+    mode: &str,
+    store: &mut MemStore,
+    input: &mut MemSource,
+    output: &mut MemSink,
+) -> Result<Status, AllocError>
     requires { store.old.chosen ≡ None }
 {
     let mut words = Vec::new(alloc);
-    words.push(String::from_str(alloc, "check")?)?;
+    words.push(String::from_str(alloc, mode)?)?;
     words.push(String::from_str(alloc, "demo.kiv")?)?;
-    Ok(called(alloc, &words, store, output))
+    Ok(called(alloc, &words, store, input, output))
+}
+
+/// `check` of what the store holds.
+fn check(alloc: Global, store: &mut MemStore, output: &mut MemSink) -> Result<Status, Fail>
+    requires { store.old.chosen ≡ None }
+{
+    let mut input = MemSource::make(alloc, &[], &[], 1)?;
+    Ok(called_as(alloc, "check", store, &mut input, output)?)
 }
 
 /// The status and the output of `check` of a file with this content.
@@ -303,10 +321,11 @@ fn failing_devices(rt: HostRuntime) -> Result<(), Fail> {
 fn other_words(rt: HostRuntime) -> Result<(), Fail> {
     let alloc = rt.alloc();
     let mut store = MemStore::make(alloc, Some(HEAD), &[], 1000)?;
+    let mut input = MemSource::make(alloc, b"status\n.\n", &[], 1)?;
     let mut output = MemSink::make(alloc, &[], 7, 1000)?;
     let mut words = Vec::new(alloc);
-    words.push(String::from_str(alloc, "check")?)?;
-    let status = called(alloc, &words, &mut store, &mut output);
+    words.push(String::from_str(alloc, "run")?)?;
+    let status = called(alloc, &words, &mut store, &mut input, &mut output);
     assert_eq!(rt; status, Status::Usage);
     assert_eq!(rt; message(status), "usage");
     Ok(())

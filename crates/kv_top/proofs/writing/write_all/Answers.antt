@@ -1,7 +1,6 @@
-use Rattle.std.proofs.Common.{rules, arith, length, take, drop, ◌+◌, ◌≤◌, sym, subst}
+use Rattle.std.proofs.Common.{rules, arith, length, ◌+◌, ◌≤◌}
 use Rattle.std.proofs.Math.Seq.{take-add}
 use Rattle.std.proofs.lemmas.List.{take_rest, length-drop}
-use Rattle.kv_io.specs.Outside.{Adds, AddsFront}
 use Rattle.kv_top.proofs.Writes.{adds-more, adds-front}
 use Rattle.kv_top.proofs.writing.write_all.Goals as goal
 

@@ -1,0 +1,28 @@
+use Rattle.std.proofs.Common.{List, rules}
+use Rattle.std.specs.Prelude.{Err}
+use Rattle.std.specs.Borrow.{Bor}
+use Rattle.kv_lex.specs.declared.token.Token.{Token}
+use Rattle.kv_syn.specs.ProjectBridge.{plain_proof}
+use Rattle.kv_syn.specs.Trees.{Name}
+use Rattle.kv_table.specs.declared.command.TheConstants as words
+use Rattle.kv_pexpr.specs.Gives.{kinds}
+use Rattle.kv_punit.specs.Commands.{plain_command}
+use Rattle.kv_punit.specs.Gives.{Finds}
+use Rattle.kv_punit.specs.Grammar.{IsArguments}
+use Rattle.kv_punit.proofs.Asked.{nameless_proof, no_proof, proof_found}
+use Rattle.kv_punit.proofs.commands.proving.Goals as goal
+
+pub returns-in_err-unit-clause-reads : goal.returns-in_err-unit-clause-reads
+returns-in_err-unit-clause-reads c =
+    let h : Finds plain_command (IsArguments words.PROOF (kinds c.args.tokens.now)) (Err c.in_err-unit.field-0.0) =
+    nameless_proof plain_command (kinds c.args.tokens.now) (λ (found : Name × Bor (List Token)). (found.0, kinds found.1.now)) c.in_err-unit.field-0.0 c.in_err-unit.ensures in
+    search rules
+
+pub returns-in_err-proof-clause-reads : goal.returns-in_err-proof-clause-reads
+returns-in_err-proof-clause-reads c =
+    let h : Finds plain_command (IsArguments words.PROOF (kinds c.args.tokens.now)) (Err c.in_err-proof.field-0.0) =
+    no_proof plain_command (kinds c.args.tokens.now) plain_proof c.in_err-proof.field-0.0 c.in_ok-unit.unit (kinds c.in_ok-unit.rest.now) c.in_ok-unit.ensures c.in_err-proof.ensures in
+    search rules
+
+pub returns-clause-reads : goal.returns-clause-reads
+returns-clause-reads c = proof_found (kinds c.args.tokens.now) (kinds c.in_ok-unit.rest.now) c.in_ok-unit.unit (plain_proof c.in_ok-proof.proof) c.in_ok-unit.ensures c.in_ok-proof.ensures
