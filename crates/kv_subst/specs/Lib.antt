@@ -1,0 +1,9 @@
+pub mod Changing
+pub mod Opening
+pub mod Sizes
+pub mod Gives
+pub mod Tops
+pub mod Work
+pub mod Fitting
+pub mod Laws
+pub mod Typings
