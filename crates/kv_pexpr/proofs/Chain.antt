@@ -3,36 +3,35 @@ use Rattle.std.proofs.Common.{◌≡◌, ℕ, suc, ◌+◌, ◌-◌, ◌<◌, �
 use Rattle.std.specs.Prelude.{true, false, Some, None, nat_le}
 use Rattle.std.proofs.lemmas.Bool.Decides.{leb_tells}
 use Rattle.kv_lex.specs.declared.token.TokenKind.{TokenKind}
-use Rattle.kv_table.specs.declared.keyword.TheConstants.{AND}
 use Rattle.kv_syn.specs.RawTrees.{RawForm}
 use Rattle.kv_syn.specs.RawCount.{raw_form_depth}
-use Rattle.kv_pexpr.specs.Parse.{chain, ands, eat_word, or_stay, behind, Read}
+use Rattle.kv_pexpr.specs.Parse.{chain, eat_word, or_stay, behind, Read}
 
-module _ (item : List TokenKind → Read RawForm) (n at : ℕ) (p : RawForm) (us : List TokenKind) where
+module _ (op : RawForm → RawForm → RawForm) (w : ℕ) (item : List TokenKind → Read RawForm) (n at : ℕ) (p : RawForm) (us : List TokenKind) where
   turn : ℕ → Read RawForm
-  turn h = or_stay (Some (p, us)) (λ r. ands item h (n - (at + 1)) (RawForm.And p r.0) r.1) (behind (nat_le (raw_form_depth p) h) (eat_word AND us) item)
+  turn h = or_stay (Some (p, us)) (λ r. chain op (eat_word w) item h (n - (at + 1)) (op p r.0) r.1) (behind (nat_le (raw_form_depth p) h) (eat_word w us) item)
 
-  unrolled : at < n → ands item (n - 1) (n - at) p us ≡ turn (n - 1)
+  unrolled : at < n → chain op (eat_word w) item (n - 1) (n - at) p us ≡ turn (n - 1)
   unfolding chain turn
-  unrolled below = let e : n - at ≡ suc (n - (at + 1)) = omega arith in ap (λ k. ands item (n - 1) k p us) e
+  unrolled below = let e : n - at ≡ suc (n - (at + 1)) = omega arith in ap (λ k. chain op (eat_word w) item (n - 1) k p us) e
 
-  pub too_high : at < n → n ≤ raw_form_depth p → ands item (n - 1) (n - at) p us ≡ Some (p, us)
+  pub too_high : at < n → n ≤ raw_form_depth p → chain op (eat_word w) item (n - 1) (n - at) p us ≡ Some (p, us)
   unfolding turn
   too_high below high = unrolled below ∙ elim (leb_tells (raw_form_depth p) (n - 1)) [ inl l ↦ absurd (omega (arith, l.1)) | inr l ↦ rw l.0 ]
 
-  pub no_operator : at < n → None ≡ eat_word AND us → ands item (n - 1) (n - at) p us ≡ Some (p, us)
+  pub no_operator : at < n → None ≡ eat_word w us → chain op (eat_word w) item (n - 1) (n - at) p us ≡ Some (p, us)
   unfolding turn
-  no_operator below none = unrolled below ∙ rw (← none) (elim (nat_le (raw_form_depth p) (n - 1)) as (λ b. or_stay (Some (p, us)) (λ r. ands item (n - 1) (n - (at + 1)) (RawForm.And p r.0) r.1) (behind b None item) ≡ Some (p, us)) [ true ↦ refl | false ↦ refl ])
+  no_operator below none = unrolled below ∙ rw (← none) (elim (nat_le (raw_form_depth p) (n - 1)) as (λ b. or_stay (Some (p, us)) (λ r. chain op (eat_word w) item (n - 1) (n - (at + 1)) (op p r.0) r.1) (behind b None item) ≡ Some (p, us)) [ true ↦ refl | false ↦ refl ])
 
-  pub no_operand : (vs : List TokenKind) → at < n → Some vs ≡ eat_word AND us → item vs ≡ None → ands item (n - 1) (n - at) p us ≡ Some (p, us)
+  pub no_operand : (vs : List TokenKind) → at < n → Some vs ≡ eat_word w us → item vs ≡ None → chain op (eat_word w) item (n - 1) (n - at) p us ≡ Some (p, us)
   unfolding turn
-  no_operand vs below some none = unrolled below ∙ rw (← some) (elim (nat_le (raw_form_depth p) (n - 1)) as (λ b. or_stay (Some (p, us)) (λ r. ands item (n - 1) (n - (at + 1)) (RawForm.And p r.0) r.1) (behind b (Some vs) item) ≡ Some (p, us)) [ true ↦ rw none | false ↦ refl ])
+  no_operand vs below some none = unrolled below ∙ rw (← some) (elim (nat_le (raw_form_depth p) (n - 1)) as (λ b. or_stay (Some (p, us)) (λ r. chain op (eat_word w) item (n - 1) (n - (at + 1)) (op p r.0) r.1) (behind b (Some vs) item) ≡ Some (p, us)) [ true ↦ rw none | false ↦ refl ])
 
-  pub one_turn : (vs ws : List TokenKind) (q : RawForm) → at < n → raw_form_depth p < n → Some vs ≡ eat_word AND us → item vs ≡ Some (q, ws)
-      → ands item (n - 1) (n - at) p us ≡ ands item (n - 1) (n - (at + 1)) (RawForm.And p q) ws
+  pub one_turn : (vs ws : List TokenKind) (q : RawForm) → at < n → raw_form_depth p < n → Some vs ≡ eat_word w us → item vs ≡ Some (q, ws)
+      → chain op (eat_word w) item (n - 1) (n - at) p us ≡ chain op (eat_word w) item (n - 1) (n - (at + 1)) (op p q) ws
   unfolding turn
   one_turn vs ws q below low some reads = unrolled below ∙ elim (leb_tells (raw_form_depth p) (n - 1)) [ inl l ↦ rw (l.0, ← some, reads) | inr l ↦ absurd (omega (arith, l.1)) ]
 
-  pub no_turn : n ≤ at → ands item (n - 1) (n - at) p us ≡ Some (p, us)
+  pub no_turn : n ≤ at → chain op (eat_word w) item (n - 1) (n - at) p us ≡ Some (p, us)
   unfolding chain
-  no_turn done = let e : n - at ≡ 0 = omega arith in ap (λ k. ands item (n - 1) k p us) e
+  no_turn done = let e : n - at ≡ 0 = omega arith in ap (λ k. chain op (eat_word w) item (n - 1) k p us) e

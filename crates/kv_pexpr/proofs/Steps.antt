@@ -24,6 +24,9 @@ behind_some {A} a h o item {y} e = elim (leb_tells a h) [
   | inr l ↦ absurd (let f = rw l.0 at e in cc)
 ]
 
+pub chosen : {X : Type 0} (a b : ℕ) (x y : X) {z : X} → cond (a == b) x y ≡ z → ((a ≡ b) × (x ≡ z)) ⊎ (y ≡ z)
+chosen a b x y e = elim (eqb_tells a b) [ inl t ↦ inl (t.1, rw t.0 at e) | inr t ↦ inr (rw t.0 at e) ]
+
 pub if_some : {X : Type 0} (a b : ℕ) (x : X) {y : X} → cond (a == b) (Some x) None ≡ Some y → (a ≡ b) × (x ≡ y)
 if_some {X} a b x {y} e = elim (eqb_tells a b) [
   | inl t ↦ (t.1, let f = rw t.0 at e in some_is f)

@@ -2,7 +2,7 @@
 use Rattle.std.proofs.Common.{◌≡◌, ℕ, suc, ◌-◌, ◌<◌, ap, ◌∙◌, arith, List}
 use Rattle.std.specs.Prelude.{None}
 use Rattle.kv_lex.specs.declared.token.TokenKind.{TokenKind}
-use Rattle.kv_pexpr.specs.declared.grammar.Level.{Level}
+use Rattle.kv_pexpr.specs.declared.levels.Level.{Level}
 use Rattle.kv_pexpr.specs.Parse.{read, rule}
 
 pub read_none : (n : ℕ) (l : Level) (d h : ℕ) (ts : List TokenKind) → n ≡ 0 → read n l d h ts ≡ None

@@ -6,7 +6,7 @@ use Rattle.kv_lex.specs.declared.token.Token.{Token}
 use Rattle.kv_syn.specs.declared.raws.RawForm.{RawForm}
 use Rattle.kv_pexpr.specs.declared.errors.ReadError.{ReadError}
 use Rattle.kv_pexpr.specs.declared.found.Found.{Found}
-use Rattle.kv_pexpr.specs.declared.grammar.Level.{Level}
+use Rattle.kv_pexpr.specs.declared.levels.Level.{Level}
 use Rattle.kv_pexpr.specs.Gives.{kinds, seen, Gives, IsHigh}
 use Rattle.kv_pexpr.specs.Parse.{read}
 

@@ -1,43 +1,23 @@
-// The rules of the grammar. Each takes the reader of what it contains as a parameter, so that each is proved by itself.
+// The rules of formulas. Each takes the reader of what it contains as a parameter, so that each is proved by itself.
 
-ghost use Rattle.std.specs.Prelude.{◌≡◌, ◌+◌, ◌-◌, ◌<◌, ◌≤◌, List, Some, length, drop, IfOk, IsErrOf};
+ghost use Rattle.std.specs.Prelude.{◌≡◌, ◌+◌, ◌-◌, ◌<◌, ◌≤◌};
 ghost use Rattle.kv_syn.specs.RawTrees.{RawForm as RawTree};
 ghost use Rattle.kv_syn.specs.RawBridge.{raw_form};
 ghost use Rattle.kv_syn.specs.RawCount.{raw_form_depth};
-ghost use Rattle.kv_lex.specs.declared.token.TokenKind.{TokenKind as KindTree};
-ghost use Rattle.kv_pexpr.specs.Grammar.{ReadsForm};
-ghost use Rattle.kv_pexpr.specs.Gives.{kinds, seen, Gives, IsHigh};
+ghost use Rattle.kv_pexpr.specs.Gives.{kinds, seen, Gives, IsHigh, joined, quantified};
 ghost use Rattle.kv_pexpr.specs.Nests.{Nests};
 ghost use Rattle.kv_pexpr.specs.Parse as spec;
-ghost use Rattle.kv_pexpr.specs.Readings.{OneTree, OneReading, IsLongest, IsOnly};
 
 use crate::errors::ReadError;
 use crate::found::Found;
-use crate::tokens::{eat_mark, eat_name, eat_word};
+use crate::leaves::{bound_var, equation};
+use crate::levels::{Level, Operator, Quantifier};
+use crate::tokens::{eat_mark, eat_word};
+use crate::trees::{join, negation, quantify};
 use kv_lex::{Token, TokenKind, mark};
-use kv_syn::{List, NoMemory, RawForm, boxed};
+use kv_syn::RawForm;
 use kv_table::keyword;
 use std::alloc::Global;
-
-/// How high a tree of a text may be.
-pub const TREE_HEIGHT: u32 = 150;
-
-/// How many pairs of brackets may stand open around one place.
-pub const OPEN_BRACKETS: u32 = 150;
-
-/// How deep the rules nest at most: each turn takes a bracket or a level of height.
-const FUEL: u32 = 300;
-
-/// The rules that others call.
-#[derive(Clone, Copy, Debug, PartialEq, Eq)]
-pub enum Level {
-    /// `imp = con ["->" imp]`
-    Imp,
-    /// `con = una { "and" una }`
-    Con,
-    /// `una = name | "(" imp ")"`
-    Una,
-}
 
 /// The rules over a reader of what they contain.
 #[derive(Clone, Copy)]
@@ -66,6 +46,49 @@ impl<
         (self.read)(self.alloc, tokens, self.fuel, level, brackets, height)
     }
 
+    /// What stands behind `not`.
+    fn negated<'a>(
+        &self,
+        tokens: &'a [Token],
+        brackets: u32,
+        height: u32,
+    ) -> Result<Found<'a, RawForm>, ReadError>
+        requires nests { Nests self.now.fuel (F.pre self.now.read) (F.post self.now.read) }
+        requires small { height < 1000 }
+        ensures reads { Gives seen result (spec.read_map RawTree.Not (spec.read self.now.fuel Level.Una brackets height (kinds tokens.now))) }
+        ensures high { IsHigh (height + 1) result }
+    {
+        let body = self.nested(tokens, Level::Una, brackets, height)?;
+        Ok(Found {
+            tree: negation(self.alloc, body.tree)?,
+            height: body.height + 1,
+            rest: body.rest,
+        })
+    }
+
+    /// What stands behind a quantifier.
+    fn bound<'a>(
+        &self,
+        tokens: &'a [Token],
+        quantifier: Quantifier,
+        brackets: u32,
+        height: u32,
+    ) -> Result<Found<'a, RawForm>, ReadError>
+        requires nests { Nests self.now.fuel (F.pre self.now.read) (F.post self.now.read) }
+        requires small { height < 1000 }
+        ensures reads { Gives seen result (spec.binder (quantified quantifier) (spec.read self.now.fuel Level.Una brackets height) (kinds tokens.now)) }
+        ensures high { IsHigh (height + 1) result }
+    {
+        let (var, rest) = bound_var(self.alloc, tokens)?;
+        let body = self.nested(rest, Level::Una, brackets, height)?;
+        Ok(Found {
+            tree: quantify(self.alloc, quantifier, var, body.tree)?,
+            height: body.height + 1,
+            rest: body.rest,
+        })
+    }
+
+    /// What stands behind an opening bracket.
     fn bracketed<'a>(
         &self,
         tokens: &'a [Token],
@@ -74,13 +97,13 @@ impl<
     ) -> Result<Found<'a, RawForm>, ReadError>
         requires nests { Nests self.now.fuel (F.pre self.now.read) (F.post self.now.read) }
         requires small { height < 1000 }
-        ensures reads { Gives seen result (spec.bracketed (spec.read self.now.fuel Level.Imp) brackets height (kinds tokens.now)) }
+        ensures reads { Gives seen result (spec.bracketed (spec.read self.now.fuel Level.Form) brackets height (kinds tokens.now)) }
         ensures high { IsHigh height result }
     {
         if brackets == 0 {
             return Err(ReadError::Syntax);
         }
-        let found = self.nested(tokens, Level::Imp, brackets - 1, height)?;
+        let found = self.nested(tokens, Level::Form, brackets - 1, height)?;
         match eat_mark(found.rest, mark::CLOSE) {
             Some(rest) => Ok(Found {
                 tree: found.tree,
@@ -105,23 +128,39 @@ impl<
         if height == 0 {
             return Err(ReadError::Syntax);
         }
-        match eat_mark(tokens, mark::OPEN) {
-            Some(rest) => self.bracketed(rest, brackets, height),
-            None => atom(self.alloc, tokens),
+        let Some((first, rest)) = tokens.split_first() else {
+            return Err(ReadError::Syntax);
+        };
+        match &first.kind {
+            TokenKind::Word(keyword::NOT) => self.negated(rest, brackets, height - 1),
+            TokenKind::Word(keyword::ALL) => {
+                self.bound(rest, Quantifier::All, brackets, height - 1)
+            }
+            TokenKind::Word(keyword::EX) => self.bound(rest, Quantifier::Ex, brackets, height - 1),
+            TokenKind::Word(keyword::TRUE) => Ok(constant(RawForm::True, rest)),
+            TokenKind::Word(keyword::FALSE) => Ok(constant(RawForm::False, rest)),
+            TokenKind::Word(_) => Err(ReadError::Syntax),
+            TokenKind::Ident(_) => equation(self.alloc, tokens, brackets, height),
+            TokenKind::Number(_) => Err(ReadError::Syntax),
+            TokenKind::Mark(mark::OPEN) => self.bracketed(rest, brackets, height),
+            TokenKind::Mark(_) => Err(ReadError::Syntax),
         }
     }
 
-    /// Conjuncts to the right of what was read, while `and` comes and a formula behind it reads.
-    fn ands<'a>(
+    /// Operators to the right of what was read, while one comes and an operand behind it reads.
+    fn lefts<'a>(
         &self,
         first: Found<'a, RawForm>,
+        operator: Operator,
+        word: u32,
+        operand: Level,
         brackets: u32,
         height: u32,
     ) -> Result<Found<'a, RawForm>, ReadError>
         requires nests { Nests self.now.fuel (F.pre self.now.read) (F.post self.now.read) }
         requires small { (0 < height) × (height < 1000) }
         requires high { (raw_form_depth (raw_form first.tree) ≡ first.height) × (first.height ≤ height) }
-        ensures reads { Gives seen result (spec.ands (spec.read self.now.fuel Level.Una brackets (height - 1)) (height - 1) height (raw_form first.entry.tree) (kinds first.entry.rest.now)) }
+        ensures reads { Gives seen result (spec.chain (joined operator) (spec.eat_word word) (spec.read self.now.fuel operand brackets (height - 1)) (height - 1) height (raw_form first.entry.tree) (kinds first.entry.rest.now)) }
         ensures high { IsHigh height result }
     {
         let mut left = first;
@@ -129,19 +168,52 @@ impl<
             if left.height >= height {
                 return Ok(left);
             }
-            let Some(after) = eat_word(left.rest, keyword::AND) else {
+            let Some(after) = eat_word(left.rest, word) else {
                 return Ok(left);
             };
-            match self.nested(after, Level::Una, brackets, height - 1) {
+            match self.nested(after, operand, brackets, height - 1) {
                 Ok(right) => {
                     left = Found {
                         height: left.height.max(right.height) + 1,
-                        tree: conjunction(self.alloc, left.tree, right.tree)?,
+                        tree: join(self.alloc, operator, left.tree, right.tree)?,
                         rest: right.rest,
                     };
                 }
                 Err(ReadError::NoMemory) => return Err(ReadError::NoMemory),
                 Err(ReadError::Syntax) => return Ok(left),
+            }
+        }
+        Ok(left)
+    }
+
+    /// An operator to the right of what was read, where one comes and an implication behind it reads.
+    fn right<'a>(
+        &self,
+        left: Found<'a, RawForm>,
+        operator: Operator,
+        mark: u32,
+        brackets: u32,
+        height: u32,
+    ) -> Result<Found<'a, RawForm>, ReadError>
+        requires nests { Nests self.now.fuel (F.pre self.now.read) (F.post self.now.read) }
+        requires small { (0 < height) × (height < 1000) }
+        requires high { (raw_form_depth (raw_form left.tree) ≡ left.height) × (left.height ≤ height) }
+        ensures reads { Gives seen result (spec.right (joined operator) mark (height - 1) (spec.read self.now.fuel Level.Imp brackets (height - 1)) (raw_form left.entry.tree, kinds left.entry.rest.now)) }
+        ensures high { IsHigh height result }
+    {
+        if left.height < height
+            && let Some(after) = eat_mark(left.rest, mark)
+        {
+            match self.nested(after, Level::Imp, brackets, height - 1) {
+                Ok(right) => {
+                    return Ok(Found {
+                        height: left.height.max(right.height) + 1,
+                        tree: join(self.alloc, operator, left.tree, right.tree)?,
+                        rest: right.rest,
+                    });
+                }
+                Err(ReadError::NoMemory) => return Err(ReadError::NoMemory),
+                Err(ReadError::Syntax) => {}
             }
         }
         Ok(left)
@@ -162,7 +234,39 @@ impl<
             return Err(ReadError::Syntax);
         }
         let first = self.una(tokens, brackets, height)?;
-        self.ands(first, brackets, height)
+        self.lefts(
+            first,
+            Operator::And,
+            keyword::AND,
+            Level::Una,
+            brackets,
+            height,
+        )
+    }
+
+    fn dis<'a>(
+        &self,
+        tokens: &'a [Token],
+        brackets: u32,
+        height: u32,
+    ) -> Result<Found<'a, RawForm>, ReadError>
+        requires nests { Nests self.now.fuel (F.pre self.now.read) (F.post self.now.read) }
+        requires small { height < 1000 }
+        ensures reads { Gives seen result (spec.dis_rule (spec.read self.now.fuel) brackets height (kinds tokens.now)) }
+        ensures high { IsHigh height result }
+    {
+        if height == 0 {
+            return Err(ReadError::Syntax);
+        }
+        let first = self.con(tokens, brackets, height)?;
+        self.lefts(
+            first,
+            Operator::Or,
+            keyword::OR,
+            Level::Con,
+            brackets,
+            height,
+        )
     }
 
     fn imp<'a>(
@@ -179,57 +283,42 @@ impl<
         if height == 0 {
             return Err(ReadError::Syntax);
         }
-        let left = self.con(tokens, brackets, height)?;
-        if left.height < height
-            && let Some(after) = eat_mark(left.rest, mark::ARROW)
-        {
-            match self.nested(after, Level::Imp, brackets, height - 1) {
-                Ok(right) => {
-                    return Ok(Found {
-                        height: left.height.max(right.height) + 1,
-                        tree: implication(self.alloc, left.tree, right.tree)?,
-                        rest: right.rest,
-                    });
-                }
-                Err(ReadError::NoMemory) => return Err(ReadError::NoMemory),
-                Err(ReadError::Syntax) => {}
-            }
+        let left = self.dis(tokens, brackets, height)?;
+        self.right(left, Operator::Imp, mark::ARROW, brackets, height)
+    }
+
+    fn form<'a>(
+        &self,
+        tokens: &'a [Token],
+        brackets: u32,
+        height: u32,
+    ) -> Result<Found<'a, RawForm>, ReadError>
+        requires nests { Nests self.now.fuel (F.pre self.now.read) (F.post self.now.read) }
+        requires small { height < 1000 }
+        ensures reads { Gives seen result (spec.form_rule (spec.read self.now.fuel) brackets height (kinds tokens.now)) }
+        ensures high { IsHigh height result }
+    {
+        if height == 0 {
+            return Err(ReadError::Syntax);
         }
-        Ok(left)
+        let left = self.imp(tokens, brackets, height)?;
+        self.right(left, Operator::Iff, mark::DOUBLE_ARROW, brackets, height)
     }
 }
 
-/// The conjunction of the two.
-fn conjunction(alloc: Global, left: RawForm, right: RawForm) -> Result<RawForm, NoMemory>
-    ensures { IfOk result (λ form. raw_form form ≡ RawTree.And (raw_form left) (raw_form right)) }
+/// A formula of one word.
+fn constant(tree: RawForm, rest: &[Token]) -> Found<'_, RawForm>
+    ensures { (result.tree ≡ tree) × (result.height ≡ 1) × (result.rest.now ≡ rest.now) }
 {
-    let left = boxed(alloc, left)?;
-    Ok(RawForm::And(left, boxed(alloc, right)?))
-}
-
-/// The implication of the two.
-fn implication(alloc: Global, premise: RawForm, conclusion: RawForm) -> Result<RawForm, NoMemory>
-    ensures { IfOk result (λ form. raw_form form ≡ RawTree.Imp (raw_form premise) (raw_form conclusion)) }
-{
-    let premise = boxed(alloc, premise)?;
-    Ok(RawForm::Imp(premise, boxed(alloc, conclusion)?))
-}
-
-/// A name alone.
-fn atom(alloc: Global, tokens: &[Token]) -> Result<Found<'_, RawForm>, ReadError>
-    ensures reads { Gives seen result (spec.atom (kinds tokens.now)) }
-    ensures high { IsHigh 1 result }
-{
-    let (name, rest) = eat_name(alloc, tokens)?;
-    Ok(Found {
-        tree: RawForm::Atom(name, List::new(alloc)),
+    Found {
+        tree,
         height: 1,
         rest,
-    })
+    }
 }
 
 /// Reads by a rule.
-fn read(
+pub fn read(
     alloc: Global,
     tokens: &[Token],
     fuel: u32,
@@ -250,41 +339,10 @@ fn read(
         read,
     };
     match level {
+        Level::Form => grammar.form(tokens, brackets, height),
         Level::Imp => grammar.imp(tokens, brackets, height),
+        Level::Dis => grammar.dis(tokens, brackets, height),
         Level::Con => grammar.con(tokens, brackets, height),
         Level::Una => grammar.una(tokens, brackets, height),
     }
 }
-
-/// The longest formula that begins at a place of the tokens, and the place behind it.
-///
-/// A formula is a tree of at most 150 levels, and no place in it stands inside more than 150 pairs of brackets. An
-/// arrow or an `and` that no formula follows within these limits is left unread. `Syntax` comes exactly where no formula
-/// begins there. A formula behind which neither an arrow nor `and` stands, as one that takes all the tokens, is the one
-/// that is found.
-pub fn formula(alloc: Global, tokens: &[Token], at: usize) -> Result<(RawForm, usize), ReadError>
-    requires { at ≤ length tokens.now }
-    ensures found { IfOk result (λ found. ReadsForm (kinds (drop at tokens.now)) (raw_form found.0) (kinds (drop found.1 tokens.now))) }
-    ensures within { IfOk result (λ found. (at < found.1) × (found.1 ≤ length tokens.now)) }
-    ensures longest { IsLongest tokens.now at result }
-    ensures only { IsOnly tokens.now at result }
-{
-    let found = longest(alloc, &tokens[at..])?;
-    let rest = found.rest.len();
-    Ok((found.tree, tokens.len() - rest))
-}
-
-/// The longest formula that the tokens begin with.
-fn longest(alloc: Global, tokens: &[Token]) -> Result<Found<'_, RawForm>, ReadError>
-    ensures reads { Gives seen result (spec.read FUEL Level.Imp OPEN_BRACKETS TREE_HEIGHT (kinds tokens.now)) }
-    ensures found { IfOk result (λ found. ReadsForm (kinds tokens.now) (raw_form found.tree) (kinds found.rest.now)) }
-{
-    read(alloc, tokens, FUEL, Level::Imp, OPEN_BRACKETS, TREE_HEIGHT)
-}
-
-/// One text is one formula: two readings of the same tokens are one tree where they leave the same tokens behind them,
-/// and are one altogether where neither an arrow nor `and` stands behind either.
-pub fn one_reading()
-    ensures tree { OneTree }
-    ensures whole { OneReading }
-{}

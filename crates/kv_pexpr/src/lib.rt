@@ -1,13 +1,18 @@
-//! Readers of formulas, over tokens, and of the first of some tokens.
+//! Readers of terms and formulas, over tokens, and of the first of some tokens.
 #![tactic(auto)]
 
 mod errors;
 mod found;
 mod grammar;
+mod leaves;
+mod levels;
+mod readers;
+mod terms;
 #[cfg(test)]
 mod tests;
 mod tokens;
+mod trees;
 
 pub use errors::ReadError;
-pub use grammar::{formula, one_reading};
+pub use readers::{formula, one_reading, term};
 pub use tokens::{eat_mark, eat_name, eat_word};

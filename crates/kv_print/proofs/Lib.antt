@@ -1,2 +1,4 @@
 pub mod Spelling
 pub mod Heading
+pub mod Each
+pub mod Depths

@@ -1,16 +1,24 @@
--- The canonical text of a project, of the forms that projects have so far: basic units of predicate symbols.
+-- The canonical text of a project, of the forms that projects have so far: basic units.
 use Rattle.std.specs.Prelude.{ℕ, Bool, true, false, List, [], ◌∷◌, ◌++◌, codes, flat_map}
 use Rattle.kv_syn.specs.Scripts.{Script}
+use Rattle.kv_syn.specs.Trees.{Name}
 use Rattle.kv_syn.specs.Projects.{Theorem, Proof, Item, Kind, Project}
 use Rattle.kv_syn.specs.Projects as P
 use Rattle.kv_print.specs.Pieces.{Piece, spell}
 use Rattle.kv_print.specs.Pieces.Piece.{Space, Break, Word, Ident, Number, Label, Mark}
 use Rattle.kv_print.specs.Forms.{form_pieces}
+use Rattle.kv_print.specs.Items.{arguments_pieces, body_pieces, parameters_pieces, sorts_pieces}
 use Rattle.kv_print.specs.Scripts.{script_pieces}
 
--- an item, on a line after two spaces
+-- an item on a line after two spaces: its keyword and its name, what stands behind them, and a semicolon
+abbrev pub item_line : List ℕ → Name → List Piece → List Piece
+item_line keyword name behind = Space ∷ Space ∷ Word keyword ∷ Space ∷ Ident name ∷ behind ++ (Mark (codes ";") ∷ Break ∷ [])
+
 abbrev pub item_pieces : Item → List Piece
-item_pieces (Item.Pred p []) = Space ∷ Space ∷ Word (codes "pred") ∷ Space ∷ Ident p ∷ Mark (codes ";") ∷ Break ∷ []
+item_pieces (Item.Sort s) = item_line (codes "sort") s []
+item_pieces (Item.Fun f args result) = item_line (codes "fun") f (Space ∷ Mark (codes ":") ∷ Space ∷ arguments_pieces args ++ Ident result ∷ [])
+item_pieces (Item.Pred p args) = item_line (codes "pred") p (sorts_pieces args)
+item_pieces (Item.Proc p values refs body) = item_line (codes "proc") p (parameters_pieces values refs ++ body_pieces body)
 item_pieces _ = []
 
 -- the words of a kind behind the unit's name, and its items

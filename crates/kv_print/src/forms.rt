@@ -9,7 +9,7 @@ ghost use Rattle.kv_print.specs.Pieces.{spell};
 use kv_syn::{Bytes, Name, NoMemory, RawForm, RawProg, RawTerm, Var};
 
 /// Names with commas between.
-fn push_names(text: &mut Bytes, names: &[Name]) -> Result<(), NoMemory>
+pub fn push_names(text: &mut Bytes, names: &[Name]) -> Result<(), NoMemory>
     ensures { OnOk result (text.new ≡ text.old ++ spell (names_pieces names.now)) }
 {
     let Some((first, others)) = names.split_first() else {
@@ -24,7 +24,7 @@ fn push_names(text: &mut Bytes, names: &[Name]) -> Result<(), NoMemory>
 }
 
 /// A variable with its sort.
-fn push_var(text: &mut Bytes, var: &Var) -> Result<(), NoMemory>
+pub fn push_var(text: &mut Bytes, var: &Var) -> Result<(), NoMemory>
     ensures { OnOk result (text.new ≡ text.old ++ spell (var_pieces var.now)) }
 {
     text.append(var.name.bytes())?;
@@ -180,7 +180,7 @@ pub fn push_form(text: &mut Bytes, form: &RawForm) -> Result<(), NoMemory>
 
 /// A program in braces.
 #[cycle(forms)]
-fn push_block(text: &mut Bytes, prog: &RawProg) -> Result<(), NoMemory>
+pub fn push_block(text: &mut Bytes, prog: &RawProg) -> Result<(), NoMemory>
     ensures { OnOk result (text.new ≡ text.old ++ spell (block (printed_prog (raw_prog prog.now)))) }
 {
     text.append(b"{ ")?;
@@ -202,7 +202,7 @@ fn push_first(text: &mut Bytes, prog: &RawProg) -> Result<(), NoMemory>
 
 /// A program.
 #[cycle(forms)]
-fn push_prog(text: &mut Bytes, prog: &RawProg) -> Result<(), NoMemory>
+pub fn push_prog(text: &mut Bytes, prog: &RawProg) -> Result<(), NoMemory>
     ensures { OnOk result (text.new ≡ text.old ++ spell (printed_prog (raw_prog prog.now)).pieces) }
 {
     match prog {

@@ -10,6 +10,7 @@ ghost use Rattle.kv_print.specs.Layout.{item_pieces, kind_pieces, proof_pieces, 
 ghost use Rattle.kv_print.specs.Pieces.{spell};
 
 use crate::forms::push_form;
+use crate::items::push_item;
 use crate::scripts::push_script;
 use kv_syn::{Bytes, Item, Kind, NoMemory, Project, Proof, Theorem, Unit};
 use std::alloc::Global;
@@ -61,7 +62,8 @@ fn push_kind(text: &mut Bytes, kind: &Kind) -> Result<(), NoMemory>
     }
 }
 
-fn push_items(text: &mut Bytes, items: &[Item]) -> Result<(), NoMemory>
+/// Items, a line each.
+pub fn push_items(text: &mut Bytes, items: &[Item]) -> Result<(), NoMemory>
     requires { list_all is_readable_item items.now ≡ true }
     ensures { OnOk result (text.new ≡ text.old ++ spell (flat_map item_pieces (map plain_item items.now))) }
 {
@@ -69,21 +71,6 @@ fn push_items(text: &mut Bytes, items: &[Item]) -> Result<(), NoMemory>
         push_item(text, item)?;
     }
     Ok(())
-}
-
-/// An item, on a line after two spaces.
-fn push_item(text: &mut Bytes, item: &Item) -> Result<(), NoMemory>
-    requires { is_readable_item item.now ≡ true }
-    ensures { OnOk result (text.new ≡ text.old ++ spell (item_pieces (plain_item item.now))) }
-{
-    match item {
-        Item::Pred { name, .. } => {
-            text.append(b"  pred ")?;
-            text.append(name.bytes())?;
-            text.append(b";\n")
-        }
-        _ => unreachable!(),
-    }
 }
 
 fn push_theorems(text: &mut Bytes, theorems: &[Theorem]) -> Result<(), NoMemory>

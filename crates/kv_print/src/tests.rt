@@ -6,6 +6,7 @@ ghost use Rattle.kv_syn.specs.Readable.{is_readable_item, is_readable_unit};
 ghost use Rattle.kv_syn.specs.Rows.{has_reason_row, has_state_rows};
 
 use crate::forms::push_form;
+use crate::projects::push_items;
 use crate::{project_text, reason_text, script_text, state_text};
 use kv_syn::{
     Bytes, Item, Kind, Label, List, Name, Need, NoMemory, Path, Project, Proof, RawForm, RawProg,
@@ -536,16 +537,142 @@ fn children(rt: HostRuntime) -> Result<(), Fail> {
     Ok(())
 }
 
-/// The item `pred a;` alone.
+fn sort(alloc: Global) -> Result<Item, NoMemory>
+    ensures { IfOk result (λ item. is_readable_item item ≡ true) }
+{
+    Ok(Item::Sort(name(alloc, "s")?))
+}
+
+/// The function `f` into the sort `u`.
+fn function(alloc: Global, args: &[&str]) -> Result<Item, NoMemory>
+    ensures { IfOk result (λ item. is_readable_item item ≡ true) }
+{
+    let args = names(alloc, args)?;
+    let result = name(alloc, "u")?;
+    Ok(Item::Fun {
+        name: name(alloc, "f")?,
+        args,
+        result,
+    })
+}
+
+/// The predicate `a`.
+fn predicate(alloc: Global, args: &[&str]) -> Result<Item, NoMemory>
+    ensures { IfOk result (λ item. is_readable_item item ≡ true) }
+{
+    let args = names(alloc, args)?;
+    Ok(Item::Pred {
+        name: name(alloc, "a")?,
+        args,
+    })
+}
+
+/// Variables of the sort `s`.
+fn vars(alloc: Global, texts: &[&str]) -> Result<List<Var>, NoMemory> {
+    let mut vars = List::new(alloc);
+    for text in texts {
+        vars.push(var(alloc, text)?)?;
+    }
+    Ok(vars)
+}
+
+/// The procedure `p`.
+fn procedure(alloc: Global, values: &[&str], refs: &[&str]) -> Result<Item, NoMemory>
+    ensures { IfOk result (λ item. is_readable_item item ≡ true) }
+{
+    let values = vars(alloc, values)?;
+    let refs = vars(alloc, refs)?;
+    Ok(Item::Proc {
+        name: name(alloc, "p")?,
+        values,
+        refs,
+        body: None,
+    })
+}
+
+/// The item alone, in a list: an item by itself is dear to drop here.
+fn listed(alloc: Global, item: Item) -> Result<List<Item>, NoMemory>
+    requires { is_readable_item item ≡ true }
+    ensures { IfOk result (λ items. list_all is_readable_item items ≡ true) }
+{
+    let mut items = List::new(alloc);
+    items.push(item)?;
+    Ok(items)
+}
+
+fn declares(alloc: Global, items: &List<Item>, wanted: &str) -> Result<bool, NoMemory>
+    requires { list_all is_readable_item items.now ≡ true }
+{
+    let mut text = Bytes::new(alloc);
+    push_items(&mut text, items.items())?;
+    Ok(text.bytes() == wanted.as_bytes())
+}
+
+#[test]
+fn sorts_and_functions(rt: HostRuntime) -> Result<(), Fail> {
+    let alloc = rt.alloc();
+    assert!(rt; declares(alloc, &listed(alloc, sort(alloc)?)?, "  sort s;\n")?);
+    for (args, wanted) in [
+        ([].as_slice(), "  fun f : u;\n"),
+        (["s"].as_slice(), "  fun f : s -> u;\n"),
+        (["s", "u", "t"].as_slice(), "  fun f : s, u, t -> u;\n"),
+    ] {
+        assert!(rt;
+            declares(alloc, &listed(alloc, function(alloc, args)?)?, wanted)?,
+            "{wanted}"
+        );
+    }
+    Ok(())
+}
+
+#[test]
+fn predicates(rt: HostRuntime) -> Result<(), Fail> {
+    let alloc = rt.alloc();
+    for (args, wanted) in [
+        ([].as_slice(), "  pred a;\n"),
+        (["s"].as_slice(), "  pred a : s;\n"),
+        (["s", "t"].as_slice(), "  pred a : s, t;\n"),
+    ] {
+        assert!(rt;
+            declares(alloc, &listed(alloc, predicate(alloc, args)?)?, wanted)?,
+            "{wanted}"
+        );
+    }
+    Ok(())
+}
+
+#[test]
+fn procedures(rt: HostRuntime) -> Result<(), Fail> {
+    let alloc = rt.alloc();
+    for (values, refs, wanted) in [
+        ([].as_slice(), [].as_slice(), "  proc p(;);\n"),
+        (["x"].as_slice(), [].as_slice(), "  proc p(x : s;);\n"),
+        ([].as_slice(), ["z"].as_slice(), "  proc p(; z : s);\n"),
+        (
+            ["x", "y"].as_slice(),
+            ["z", "w"].as_slice(),
+            "  proc p(x : s, y : s; z : s, w : s);\n",
+        ),
+    ] {
+        assert!(rt;
+            declares(
+                alloc,
+                &listed(alloc, procedure(alloc, values, refs)?)?,
+                wanted
+            )?,
+            "{wanted}"
+        );
+    }
+    Ok(())
+}
+
+/// The items `sort s;` and `pred a;`.
 fn items(alloc: Global) -> Result<List<Item>, NoMemory>
     ensures { IfOk result (λ items. list_all is_readable_item items ≡ true) }
 {
-    let pred = Item::Pred {
-        name: name(alloc, "a")?,
-        args: List::new(alloc),
-    };
     let mut items = List::new(alloc);
-    items.push(pred)?;
+    items.push(sort(alloc)?)?;
+    items.push(predicate(alloc, &[])?)?;
     Ok(items)
 }
 
@@ -574,7 +701,7 @@ fn proofs(alloc: Global) -> Result<List<Proof>, NoMemory> {
     Ok(proofs)
 }
 
-/// The unit of that name with the predicate `a`.
+/// The unit of that name with the sort `s` and the predicate `a`.
 fn unit(
     alloc: Global,
     text: &str,
@@ -619,7 +746,7 @@ fn projects(rt: HostRuntime) -> Result<(), Fail> {
         prints(
             alloc,
             units(alloc)?,
-            "project 1\nunit A basic\n  pred a;\nend\ntheorem t : a -> a;\nproof t = impR 1; close 1 1 qed\nunit B basic\n  pred a;\nend\n",
+            "project 1\nunit A basic\n  sort s;\n  pred a;\nend\ntheorem t : a -> a;\nproof t = impR 1; close 1 1 qed\nunit B basic\n  sort s;\n  pred a;\nend\n",
         )?
     );
     Ok(())

@@ -19,7 +19,7 @@ use Rattle.kv_punit.proofs.Sound.{sound_labelled, sound_script, sound_head}
 
 -- nothing goes on behind the last token
 pub no_more : Stops []
-no_more us = (λ e. cc, λ e. cc)
+no_more us = (λ e. cc, λ e. cc, λ e. cc, λ e. cc, λ e. cc, λ e. cc)
 
 pub no_child : Ends []
 no_child = record { no_semicolon = refl; no_brace = refl }

@@ -5,6 +5,7 @@ use Rattle.kv_lex.specs.declared.mark.TheConstants.{OPEN_BRACE, CLOSE_BRACE, SEM
 use Rattle.kv_lex.specs.declared.token.TokenKind.{TokenKind}
 use Rattle.kv_lex.specs.declared.token.TokenKind.TheVariants.{Word, Ident, Mark}
 use Rattle.kv_pexpr.specs.Parse.{eat_mark, eat_word}
+use Rattle.kv_pexpr.proofs.Steps.{given_some}
 use Rattle.kv_syn.specs.Trees.{Name}
 use Rattle.kv_syn.specs.Scripts.{Step, Script, Scripts}
 use Rattle.kv_syn.specs.ScriptBridge.{scripts_of}
@@ -14,6 +15,7 @@ use Rattle.kv_table.specs.declared.keyword.TheConstants as word
 use Rattle.kv_punit.specs.Grammar as g
 use Rattle.kv_punit.specs.Grammar.{IsStep, IsScript, AreScripts, IsLabel, AreItems, IsLabelled, IsProof, IsHead}
 use Rattle.kv_punit.specs.Parse as spec
+use Rattle.kv_punit.proofs.ItemExact.{exact_item, item_takes, read_item}
 use Rattle.kv_punit.proofs.Steps.{two_not_one}
 use Rattle.kv_punit.proofs.Turns.{script_hole}
 
@@ -155,18 +157,25 @@ pub exact_proof : {ts us : List TokenKind} {p : Proof} → IsProof ts p us → s
 exact_proof (g.proof r) = rw (exact_labelled r (record { no_semicolon = refl; no_brace = refl }))
 
 -- the items that are left are read, wherever there are turns enough
-items_none : (us : List TokenKind) → eat_word word.PRED us ≡ None → (k : ℕ) (done : List Item) → length us ≤ k → spec.items k done us ≡ Some (done ++ [], us)
+items_none : (us : List TokenKind) → spec.eat_declares us ≡ None → (k : ℕ) (done : List Item) → length us ≤ k → spec.items k done us ≡ Some (done ++ [], us)
 unfolding spec.items
 items_none us stop zero done fits = ap (λ l. Some (l, us)) (sym (append-nil done))
 items_none us stop (suc k) done fits = rw stop (ap (λ l. Some (l, us)) (sym (append-nil done)))
 
-pub exact_items : {ts us : List TokenKind} {list : List Item} → AreItems ts list us → eat_word word.PRED us ≡ None
-    → (k : ℕ) (done : List Item) → length ts ≤ k → spec.items k done ts ≡ Some (done ++ list, us)
+items_more : (ts us vs : List TokenKind) (i : Item) (list : List Item) → read_item ts ≡ Some (i, us) → length us < length ts
+    → ((k : ℕ) (done : List Item) → length us ≤ k → spec.items k done us ≡ Some (done ++ list, vs))
+    → (k : ℕ) (done : List Item) → length ts ≤ k → spec.items k done ts ≡ Some (done ++ (i ∷ list), vs)
 unfolding spec.items
+items_more ts us vs i list reads less rest zero done fits = absurd (omega arith)
+items_more ts us vs i list reads less rest (suc k) done fits =
+    let d = given_some (spec.eat_declares ts) (λ d. spec.item d.0 d.1) reads in
+    rw (d.1, d.2) (rest k (done ++ (i ∷ [])) (omega arith) ∙ ap (λ l. Some (l, vs)) (append_assoc done (i ∷ []) list))
+
+pub exact_items : {ts us : List TokenKind} {list : List Item} → AreItems ts list us → spec.eat_declares us ≡ None
+    → (k : ℕ) (done : List Item) → length ts ≤ k → spec.items k done ts ≡ Some (done ++ list, us)
 exact_items (g.none {us = us}) stop k done fits = items_none us stop k done fits
-exact_items (g.pred r) stop zero done fits = absurd (omega arith)
-exact_items (g.pred {n = n} {ts = ts} {us = us} {items = list} r) stop (suc k) done fits =
-    exact_items r stop k (done ++ (Item.Pred n [] ∷ [])) (omega arith) ∙ ap (λ l. Some (l, us)) (append_assoc done (Item.Pred n [] ∷ []) list)
+exact_items (g.more {ts = ts} {us = us} {vs = vs} {x = i} {rest = list} r rs) stop k done fits =
+    items_more ts us vs i list (exact_item r) (item_takes r) (λ k done fits. exact_items rs stop k done fits) k done fits
 
 pub exact_head : {ts us : List TokenKind} {u : P.Unit} → IsHead ts u us → spec.head ts ≡ Some (u, us)
 exact_head (g.head {ts = ts} is) = rw (exact_items is refl (length ts) [] (omega arith))

@@ -1,5 +1,7 @@
 pub mod Turns
 pub mod Steps
+pub mod ItemSound
+pub mod ItemExact
 pub mod Sound
 pub mod Exact
 pub mod Maps

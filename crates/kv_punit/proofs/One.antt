@@ -20,7 +20,7 @@ use Rattle.kv_punit.proofs.Exact.{exact_labelled, exact_proof, exact_head}
 use Rattle.kv_punit.proofs.Wholes.{statement_parts}
 
 pub semicolon_stops : (us : List TokenKind) → Stops (Mark SEMICOLON ∷ us)
-semicolon_stops us vs = (λ e. cc, λ e. cc)
+semicolon_stops us vs = (λ e. cc, λ e. cc, λ e. cc, λ e. cc, λ e. cc, λ e. cc)
 
 pub one_statement : {ts us vs : List TokenKind} {t u : Theorem} → IsStatement ts t us → IsStatement ts u vs → Stops us → Stops vs → (t ≡ u) × (us ≡ vs)
 one_statement {ts} {us} {vs} {t} {u} r s stop stop' =

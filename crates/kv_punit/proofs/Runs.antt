@@ -8,7 +8,7 @@ use Rattle.kv_pexpr.specs.Gives.{Gives, kinds}
 use Rattle.kv_pexpr.specs.Parse.{eat_word}
 use Rattle.kv_pexpr.specs.declared.errors.ReadError.{ReadError}
 use Rattle.kv_pexpr.specs.declared.errors.ReadError.TheVariants as reader
-use Rattle.kv_pexpr.proofs.Sound.{imp_takes}
+use Rattle.kv_pexpr.proofs.Sound.{form_takes}
 use Rattle.kv_syn.specs.Trees.{Name}
 use Rattle.kv_syn.specs.Projects.{Theorem, Proof, Item}
 use Rattle.kv_syn.specs.Projects as P
@@ -18,6 +18,7 @@ use Rattle.kv_punit.specs.Grammar as g
 use Rattle.kv_punit.specs.Grammar.{Are, IsStatement, IsTheorem, IsLabelled, IsProof, IsHead, IsUnit, IsLabel, AreItems, AreTheorems, AreProofs, AreUnits}
 use Rattle.kv_punit.specs.Parse as spec
 use Rattle.kv_punit.proofs.Exact.{exact_proof, script_takes}
+use Rattle.kv_punit.proofs.ItemExact.{item_takes}
 use Rattle.kv_punit.proofs.Sound.{sound_proof}
 use Rattle.kv_punit.proofs.Lists.{Leads, leads_turn, leads_none}
 use Rattle.kv_punit.proofs.One.{theorem_begins, proof_begins, one_theorem, one_proof, one_theorems, one_proofs, one_unit, unit_some, units_stop, proofs_stop}
@@ -31,7 +32,7 @@ Any us = Unit {0}
 -- ---- how many tokens a reading takes
 
 statement_takes : {ts us : List TokenKind} {t : Theorem} → IsStatement ts t us → length us < length ts
-statement_takes (g.statement r) = omega (arith, imp_takes r.0)
+statement_takes (g.statement r) = omega (arith, form_takes r.0)
 
 pub theorem_takes : {ts us : List TokenKind} {t : Theorem} → IsTheorem ts t us → length us < length ts
 theorem_takes (g.theorem r) = omega (arith, statement_takes r)
@@ -49,7 +50,7 @@ proof_takes (g.proof r) = omega (arith, labelled_takes r)
 
 items_take : {ts us : List TokenKind} {l : List Item} → AreItems ts l us → length us ≤ length ts
 items_take g.none = omega arith
-items_take (g.pred r) = omega (arith, items_take r)
+items_take (g.more r rs) = omega (arith, item_takes r, items_take rs)
 
 theorems_take : {ts us : List TokenKind} {l : List Theorem} → AreTheorems ts l us → length us ≤ length ts
 theorems_take g.none = omega arith

@@ -17,6 +17,7 @@ use Rattle.kv_table.specs.declared.keyword.TheConstants as word
 use Rattle.kv_punit.specs.Grammar as g
 use Rattle.kv_punit.specs.Grammar.{IsStep, IsScript, AreScripts, IsLabel, AreItems, IsLabelled, IsProof, IsHead, takes_one, takes_two, path_steps, has_colon}
 use Rattle.kv_punit.specs.Parse as spec
+use Rattle.kv_punit.proofs.ItemSound.{sound_declares, sound_item}
 use Rattle.kv_punit.proofs.Steps.{number_some, cond_some, separator_some}
 
 sound_numbers : (n : Name) (row : ℕ) (us : List TokenKind) (r : Step × List TokenKind) → row_of rule_rows n ≡ Some row → spec.numbers (row, us) ≡ Some r → IsStep (Ident n ∷ us) r.0 r.1
@@ -166,23 +167,15 @@ sound_proof ts r e =
     let is = rw (word_some word.QED p.0.1 q.0 q.1) at (sound_labelled a.0 p.0 p.1) in
     rw (word_some word.PROOF ts a.0 a.1) (subst (λ (x : Proof × List TokenKind). IsProof (Word word.PROOF ∷ a.0) x.0 x.1) (some_is q.2) (g.proof is))
 
-items_from : (ts us vs ws xs : List TokenKind) (n : Name) (more : List Item) → ts ≡ Word word.PRED ∷ us → us ≡ Ident n ∷ vs → vs ≡ Mark SEMICOLON ∷ ws
-    → AreItems ws more xs → AreItems ts (Item.Pred n [] ∷ more) xs
-items_from ts us vs ws xs n more e f h are = rw (e, f, h) (g.pred are)
-
 pub sound_items : (k : ℕ) (done : List Item) (ts : List TokenKind) (r : List Item × List TokenKind) → spec.items k done ts ≡ Some r
     → (more : List Item) × (r.0 ≡ done ++ more) × AreItems ts more r.1
 unfolding spec.items
 sound_items zero done ts r e = subst (λ (x : List Item × List TokenKind). (more : List Item) × (x.0 ≡ done ++ more) × AreItems ts more x.1) (some_is e) ([], sym (append-nil done), g.none)
-sound_items (suc k) done ts r e = elim (stay_or (Some (done, ts)) (spec.item (spec.items k) done) (eat_word word.PRED ts) e) [
+sound_items (suc k) done ts r e = elim (stay_or (Some (done, ts)) (spec.started (spec.items k) done) (spec.eat_declares ts) e) [
   | inl a ↦ (
-      let n = given_some (eat_name a.0) (spec.predicate (spec.items k) done) a.2 in
-      let b = given_some (eat_mark SEMICOLON n.0.1) (spec.items k (done ++ (Item.Pred n.0.0 [] ∷ []))) n.2 in
-      let rest = sound_items k (done ++ (Item.Pred n.0.0 [] ∷ [])) b.0 r b.2 in (
-        Item.Pred n.0.0 [] ∷ rest.0,
-        rest.1 ∙ append_assoc done (Item.Pred n.0.0 [] ∷ []) rest.0,
-        items_from ts a.0 n.0.1 b.0 r.1 n.0.0 rest.0 (word_some word.PRED ts a.0 a.1) (name_some a.0 n.0 n.1) (mark_some SEMICOLON n.0.1 b.0 b.1) rest.2,
-      ))
+      let i = given_some (spec.item a.0.0 a.0.1) (λ i. spec.items k (done ++ (i.0 ∷ [])) i.1) a.2 in
+      let rest = sound_items k (done ++ (i.0.0 ∷ [])) i.0.1 r i.2 in
+      (i.0.0 ∷ rest.0, rest.1 ∙ append_assoc done (i.0.0 ∷ []) rest.0, rw (sound_declares ts a.0 a.1) (g.more (sound_item a.0.0 a.0.1 i.0 i.1) rest.2)))
   | inr a ↦ subst (λ (x : List Item × List TokenKind). (more : List Item) × (x.0 ≡ done ++ more) × AreItems ts more x.1) (some_is a.1) ([], sym (append-nil done), g.none)
 ]
 
@@ -202,7 +195,7 @@ pub sound_head : (ts : List TokenKind) (r : P.Unit × List TokenKind) → spec.h
 sound_head ts r e =
     let a = given_some (eat_word word.UNIT ts) (λ us. given (eat_name us) spec.titled) e in
     let n = given_some (eat_name a.0) spec.titled a.2 in
-    let b = given_some (eat_word word.BASIC n.0.1) (spec.listed n.0.0) n.2 in
+    let b = given_some (eat_word word.BASIC n.0.1) (spec.itemized n.0.0) n.2 in
     let i = given_some (spec.items (length b.0) [] b.0) (spec.ended n.0.0) b.2 in
     let ends = ended_some n.0.0 i.0 r i.2 in
     let are = sound_items (length b.0) [] b.0 i.0 i.1 in

@@ -1,14 +1,15 @@
 -- One turn of each loop.
 use Rattle.std.proofs.Common.{◌≡◌, ℕ, zero, suc, ◌+◌, ◌-◌, ◌<◌, ◌≤◌, ap, ◌∙◌, arith, List, [], ◌∷◌, ◌++◌}
 use Rattle.std.specs.Prelude.{Some, None}
-use Rattle.kv_lex.specs.declared.mark.TheConstants.{SEMICOLON, CLOSE_BRACE, BAR}
+use Rattle.kv_lex.specs.declared.mark.TheConstants.{COMMA, CLOSE_BRACE, BAR}
 use Rattle.kv_lex.specs.declared.token.TokenKind.{TokenKind}
 use Rattle.kv_pexpr.specs.Parse.{Read, given, or_stay, eat_mark, eat_word, eat_name}
 use Rattle.kv_syn.specs.Trees.{Name}
 use Rattle.kv_syn.specs.Scripts.{Script}
 use Rattle.kv_syn.specs.Projects.{Item}
 use Rattle.kv_table.specs.declared.keyword.TheConstants as word
-use Rattle.kv_punit.specs.Parse.{block, child, separator, parts, part, items, item, script, step, node, hole}
+use Rattle.kv_punit.specs.declared.items.Declares.{Declares}
+use Rattle.kv_punit.specs.Parse.{block, child, separator, parts, part, items, item, started, eat_declares, listed, followed, script, step, node, hole}
 
 module _ (n at : ℕ) (text : Name) (ts : List TokenKind) where
   pub parts_next : at < n → parts (n - at) text ts ≡ or_stay (Some (text, ts)) (part (parts (n - (at + 1))) text) (separator ts)
@@ -30,7 +31,7 @@ module _ (n at : ℕ) (text : Name) (ts : List TokenKind) where
   parts_turn b r us vs below some reads = parts_next below ∙ rw (some, reads)
 
 module _ (n at : ℕ) (done : List Item) (ts : List TokenKind) where
-  pub items_next : at < n → items (n - at) done ts ≡ or_stay (Some (done, ts)) (item (items (n - (at + 1))) done) (eat_word word.PRED ts)
+  pub items_next : at < n → items (n - at) done ts ≡ or_stay (Some (done, ts)) (started (items (n - (at + 1))) done) (eat_declares ts)
   unfolding items
   items_next below = let e : n - at ≡ suc (n - (at + 1)) = omega arith in ap (λ k. items k done ts) e
 
@@ -38,19 +39,25 @@ module _ (n at : ℕ) (done : List Item) (ts : List TokenKind) where
   unfolding items
   items_end past = let e : n - at ≡ 0 = omega arith in ap (λ k. items k done ts) e
 
-  pub items_stop : at < n → eat_word word.PRED ts ≡ None → items (n - at) done ts ≡ Some (done, ts)
-  items_stop below none = items_next below ∙ rw none
+  pub items_turn : (d : Declares) (us vs : List TokenKind) (i : Item) → at < n → eat_declares ts ≡ Some (d, us) → item d us ≡ Some (i, vs)
+      → items (n - at) done ts ≡ items (n - (at + 1)) (done ++ (i ∷ [])) vs
+  items_turn d us vs i below some reads = items_next below ∙ rw (some, reads)
 
-  pub items_nameless : (us : List TokenKind) → at < n → eat_word word.PRED ts ≡ Some us → eat_name us ≡ None → items (n - at) done ts ≡ None
-  items_nameless us below some none = items_next below ∙ rw (some, none)
+module _ {X : Type 0} (thing : List TokenKind → Read X) (n at : ℕ) (done : List X) (ts : List TokenKind) where
+  pub listed_next : at < n → listed thing (n - at) done ts ≡ given (thing ts) (followed (listed thing (n - (at + 1))) done)
+  unfolding listed
+  listed_next below = let e : n - at ≡ suc (n - (at + 1)) = omega arith in ap (λ k. listed thing k done ts) e
 
-  pub items_unclosed : (us vs : List TokenKind) (p : Name) → at < n → eat_word word.PRED ts ≡ Some us → eat_name us ≡ Some (p, vs) → eat_mark SEMICOLON vs ≡ None
-      → items (n - at) done ts ≡ None
-  items_unclosed us vs p below some reads none = items_next below ∙ rw (some, reads, none)
+  pub listed_end : n ≤ at → listed thing (n - at) done ts ≡ None
+  unfolding listed
+  listed_end past = let e : n - at ≡ 0 = omega arith in ap (λ k. listed thing k done ts) e
 
-  pub items_turn : (us vs ws : List TokenKind) (p : Name) → at < n → eat_word word.PRED ts ≡ Some us → eat_name us ≡ Some (p, vs) → eat_mark SEMICOLON vs ≡ Some ws
-      → items (n - at) done ts ≡ items (n - (at + 1)) (done ++ (Item.Pred p [] ∷ [])) ws
-  items_turn us vs ws p below some reads closed = items_next below ∙ rw (some, reads, closed)
+  pub listed_last : (x : X) (us : List TokenKind) → at < n → thing ts ≡ Some (x, us) → eat_mark COMMA us ≡ None → listed thing (n - at) done ts ≡ Some (done ++ (x ∷ []), us)
+  listed_last x us below reads none = listed_next below ∙ rw (reads, none)
+
+  pub listed_turn : (x : X) (us vs : List TokenKind) → at < n → thing ts ≡ Some (x, us) → eat_mark COMMA us ≡ Some vs
+      → listed thing (n - at) done ts ≡ listed thing (n - (at + 1)) (done ++ (x ∷ [])) vs
+  listed_turn x us vs below reads some = listed_next below ∙ rw (reads, some)
 
 module _ (read : List TokenKind → Read Script) (n at : ℕ) (done : List Script) (ts : List TokenKind) where
   pub block_next : at < n → block read (n - at) done ts ≡ given (read ts) (child (block read (n - (at + 1))) done)

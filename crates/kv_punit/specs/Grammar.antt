@@ -2,7 +2,7 @@
 -- the tokens behind it.
 use Rattle.std.specs.Prelude.{ℕ, suc, ◌≡◌, ◌==◌, Bool, true, false, List, [], ◌∷◌, ◌++◌, Option, Some, None, slice_get}
 use Rattle.std.specs.List.{list_any}
-use Rattle.kv_lex.specs.declared.mark.TheConstants.{OPEN_BRACE, CLOSE_BRACE, SEMICOLON, COLON, DOT, EQUAL, BAR}
+use Rattle.kv_lex.specs.declared.mark.TheConstants.{OPEN, CLOSE, OPEN_BRACE, CLOSE_BRACE, COMMA, SEMICOLON, COLON, DOT, EQUAL, ARROW, BAR}
 use Rattle.kv_lex.specs.declared.token.TokenKind.{TokenKind}
 use Rattle.kv_lex.specs.declared.token.TokenKind.TheVariants.{Word, Ident, Number, Mark}
 use Rattle.kv_pexpr.specs.Grammar.{ReadsForm}
@@ -11,6 +11,7 @@ use Rattle.kv_syn.specs.RawTrees.{RawForm}
 use Rattle.kv_syn.specs.Scripts.{Step, StepText, Script, Scripts}
 use Rattle.kv_syn.specs.Projects.{Theorem, Proof, Item, Kind, Project}
 use Rattle.kv_syn.specs.Projects as P
+use Rattle.kv_syn.specs.declared.symbols.Var.{Var}
 use Rattle.kv_punit.specs.Commands.{Command}
 use Rattle.kv_table.specs.Names.{row_of}
 use Rattle.kv_table.specs.Tables.{command_rows, keyword_rows, rule_rows}
@@ -58,11 +59,43 @@ pub data IsLabel : List TokenKind → Name → List TokenKind → Type 0 where
   dot : {n l : Name} {ts us : List TokenKind} → IsLabel ts l us → IsLabel (Ident n ∷ Mark DOT ∷ ts) (n ++ (46 ∷ l)) us
   colon : {n l : Name} {ts us : List TokenKind} → IsLabel ts l us → IsLabel (Ident n ∷ Mark COLON ∷ ts) (n ++ (58 ∷ l)) us
 
--- items = { "pred" name ";" }
-pub data AreItems : List TokenKind → List Item → List TokenKind → Type 0 where
-  none : {us : List TokenKind} → AreItems us [] us
-  pred : {n : Name} {ts us : List TokenKind} {items : List Item}
-      → AreItems ts items us → AreItems (Word word.PRED ∷ Ident n ∷ Mark SEMICOLON ∷ ts) (Item.Pred n [] ∷ items) us
+-- names, and parameters, as things of a list; parameter = name ":" name
+pub data IsName : List TokenKind → Name → List TokenKind → Type 0 where
+  name : {n : Name} {us : List TokenKind} → IsName (Ident n ∷ us) n us
+
+pub data IsParameter : List TokenKind → Var → List TokenKind → Type 0 where
+  parameter : {x : Var} {us : List TokenKind} → IsParameter (Ident x.name ∷ Mark COLON ∷ Ident x.sort ∷ us) x us
+
+-- things with commas between, one at least
+pub data Listed {X : Type 0} (Is : List TokenKind → X → List TokenKind → Type 0) : List TokenKind → List X → List TokenKind → Type 0 where
+  last : {ts us : List TokenKind} {x : X} → Is ts x us → Listed Is ts (x ∷ []) us
+  more : {ts us vs : List TokenKind} {x : X} {rest : List X} → Is ts x (Mark COMMA ∷ us) → Listed Is us rest vs → Listed Is ts (x ∷ rest) vs
+
+abbrev pub AreNames : List TokenKind → List Name → List TokenKind → Type 0
+AreNames = Listed IsName
+
+-- [ parameter { "," parameter } ]
+pub data AreParameters : List TokenKind → List Var → List TokenKind → Type 0 where
+  none : {us : List TokenKind} → AreParameters us [] us
+  some : {ts us : List TokenKind} {xs : List Var} → Listed IsParameter ts xs us → AreParameters ts xs us
+
+-- declaration = "sort" name | "fun" name ":" [ names "->" ] name | "pred" name [ ":" names ]
+--             | "proc" name "(" [ parameters ] ";" [ parameters ] ")"
+pub data IsDeclaration : List TokenKind → Item → List TokenKind → Type 0 where
+  sort : {n : Name} {us : List TokenKind} → IsDeclaration (Word word.SORT ∷ Ident n ∷ us) (Item.Sort n) us
+  constant : {n s : Name} {us : List TokenKind} → IsDeclaration (Word word.FUN ∷ Ident n ∷ Mark COLON ∷ Ident s ∷ us) (Item.Fun n [] s) us
+  function : {n s : Name} {ts us : List TokenKind} {args : List Name}
+      → AreNames ts args (Mark ARROW ∷ Ident s ∷ us) → IsDeclaration (Word word.FUN ∷ Ident n ∷ Mark COLON ∷ ts) (Item.Fun n args s) us
+  proposition : {n : Name} {us : List TokenKind} → IsDeclaration (Word word.PRED ∷ Ident n ∷ us) (Item.Pred n []) us
+  predicate : {n : Name} {ts us : List TokenKind} {args : List Name}
+      → AreNames ts args us → IsDeclaration (Word word.PRED ∷ Ident n ∷ Mark COLON ∷ ts) (Item.Pred n args) us
+  procedure : {n : Name} {ts us vs : List TokenKind} {values refs : List Var}
+      → AreParameters ts values (Mark SEMICOLON ∷ us) → AreParameters us refs (Mark CLOSE ∷ vs)
+      → IsDeclaration (Word word.PROC ∷ Ident n ∷ Mark OPEN ∷ ts) (Item.Proc n values refs None) vs
+
+-- item = declaration ";"
+pub data IsItem : List TokenKind → Item → List TokenKind → Type 0 where
+  item : {ts us : List TokenKind} {i : Item} → IsDeclaration ts i (Mark SEMICOLON ∷ us) → IsItem ts i us
 
 -- statement = name ":" form
 pub data IsStatement : List TokenKind → Theorem → List TokenKind → Type 0 where
@@ -93,6 +126,9 @@ pub data IsProof : List TokenKind → Proof → List TokenKind → Type 0 where
 pub data Are {X : Type 0} (Is : List TokenKind → X → List TokenKind → Type 0) : List TokenKind → List X → List TokenKind → Type 0 where
   none : {us : List TokenKind} → Are Is us [] us
   more : {ts us vs : List TokenKind} {x : X} {rest : List X} → Is ts x us → Are Is us rest vs → Are Is ts (x ∷ rest) vs
+
+abbrev pub AreItems : List TokenKind → List Item → List TokenKind → Type 0
+AreItems = Are IsItem
 
 abbrev pub AreTheorems : List TokenKind → List Theorem → List TokenKind → Type 0
 AreTheorems = Are IsTheorem

@@ -1,6 +1,6 @@
 -- What the readers compute, as functions of the kinds of the tokens. That it is the grammar's is proved.
-use Rattle.std.specs.Prelude.{ℕ, zero, suc, if◌then◌else◌, List, [], ◌∷◌, ◌++◌, length, Option, Some, None, codes}
-use Rattle.kv_lex.specs.declared.mark.TheConstants.{OPEN_BRACE, CLOSE_BRACE, SEMICOLON, COLON, DOT, EQUAL, BAR}
+use Rattle.std.specs.Prelude.{ℕ, zero, suc, Bool, true, false, if◌then◌else◌, ◌==◌, List, [], ◌∷◌, ◌++◌, length, Option, Some, None, codes}
+use Rattle.kv_lex.specs.declared.mark.TheConstants.{OPEN, CLOSE, OPEN_BRACE, CLOSE_BRACE, COMMA, SEMICOLON, COLON, DOT, EQUAL, ARROW, BAR}
 use Rattle.kv_lex.specs.declared.token.TokenKind.{TokenKind}
 use Rattle.kv_lex.specs.declared.token.TokenKind.TheVariants.{Word, Ident, Number, Mark}
 use Rattle.kv_pexpr.specs.Parse.{Read, given, or_stay, eat_mark, eat_word, eat_name}
@@ -9,9 +9,12 @@ use Rattle.kv_syn.specs.Scripts.{Step, Script}
 use Rattle.kv_syn.specs.ScriptBridge.{scripts_of}
 use Rattle.kv_syn.specs.Projects.{Proof, Item, Kind}
 use Rattle.kv_syn.specs.Projects as P
+use Rattle.kv_syn.specs.declared.symbols.Var.{Var}
 use Rattle.kv_table.specs.Names.{row_of}
 use Rattle.kv_table.specs.Tables.{command_rows, rule_rows}
 use Rattle.kv_table.specs.declared.keyword.TheConstants as word
+use Rattle.kv_punit.specs.declared.items.Declares.{Declares}
+use Rattle.kv_punit.specs.declared.items.Declares.TheVariants as declare
 use Rattle.kv_punit.specs.Grammar.{numbered, takes_one, takes_two, path_steps, has_colon, text_of}
 
 abbrev pub eat_number : List TokenKind → Read ℕ
@@ -110,27 +113,114 @@ without_colon r = if has_colon r.0 then None else Some r
 abbrev pub proof_label : List TokenKind → Read Name
 proof_label ts = given (label ts) without_colon
 
--- behind `pred`
-abbrev pub predicate : (List Item → List TokenKind → Read (List Item)) → List Item → Name × List TokenKind → Read (List Item)
-predicate more done r = given (eat_mark SEMICOLON r.1) (more (done ++ (Item.Pred r.0 [] ∷ [])))
+-- behind a thing of a list: a comma and more of them, or nothing
+abbrev pub followed : {X : Type 0} → (List X → List TokenKind → Read (List X)) → List X → X × List TokenKind → Read (List X)
+followed more done r = or_stay (Some (done ++ (r.0 ∷ []), r.1)) (more (done ++ (r.0 ∷ []))) (eat_mark COMMA r.1)
 
-abbrev pub item : (List Item → List TokenKind → Read (List Item)) → List Item → List TokenKind → Read (List Item)
-item more done ts = given (eat_name ts) (predicate more done)
+-- the things that are left, with commas between, behind those that are done; the number bounds the turns
+unfoldable pub listed : {X : Type 0} → (List TokenKind → Read X) → ℕ → List X → List TokenKind → Read (List X)
+listed thing zero done ts = None
+listed thing (suc k) done ts = given (thing ts) (followed (listed thing k) done)
+
+abbrev pub names : List TokenKind → Read (List Name)
+names ts = listed eat_name (length ts) [] ts
+
+-- a parameter, by its parts
+abbrev pub sorted : Name → Name × List TokenKind → Read Var
+sorted x s = Some (record { name = x; sort = s.0 }, s.1)
+
+abbrev pub typed : Name × List TokenKind → Read Var
+typed x = given (eat_mark COLON x.1) (λ us. given (eat_name us) (sorted x.0))
+
+abbrev pub parameter : List TokenKind → Read Var
+parameter ts = given (eat_name ts) typed
+
+abbrev pub begins_with_name : List TokenKind → Bool
+begins_with_name (Ident n ∷ ts) = true
+begins_with_name _ = false
+
+-- parameters, where a name comes
+abbrev pub parameters : List TokenKind → Read (List Var)
+parameters ts = if begins_with_name ts then listed parameter (length ts) [] ts else Some ([], ts)
+
+-- behind the name of a function, of a predicate, of a procedure
+abbrev pub arrowed : List TokenKind → List Name × List TokenKind → Read (List Name)
+arrowed ts args = or_stay (Some ([], ts)) (λ us. Some (args.0, us)) (eat_mark ARROW args.1)
+
+abbrev pub arguments : List TokenKind → Read (List Name)
+arguments ts = given (names ts) (arrowed ts)
+
+abbrev pub into : Name → List Name → Name × List TokenKind → Read Item
+into n args s = Some (Item.Fun n args s.0, s.1)
+
+abbrev pub resulting : Name → List Name × List TokenKind → Read Item
+resulting n args = given (eat_name args.1) (into n args.0)
+
+abbrev pub function : Name → List TokenKind → Read Item
+function n ts = given (eat_mark COLON ts) (λ us. given (arguments us) (resulting n))
+
+abbrev pub over : Name → List Name × List TokenKind → Read Item
+over n args = Some (Item.Pred n args.0, args.1)
+
+abbrev pub predicate : Name → List TokenKind → Read Item
+predicate n ts = or_stay (Some (Item.Pred n [], ts)) (λ us. given (names us) (over n)) (eat_mark COLON ts)
+
+abbrev pub bracketed : Name → List Var → List Var × List TokenKind → Read Item
+bracketed n values refs = given (eat_mark CLOSE refs.1) (λ us. Some (Item.Proc n values refs.0 None, us))
+
+abbrev pub referring : Name → List Var × List TokenKind → Read Item
+referring n values = given (eat_mark SEMICOLON values.1) (λ us. given (parameters us) (bracketed n values.0))
+
+abbrev pub procedure : Name → List TokenKind → Read Item
+procedure n ts = given (eat_mark OPEN ts) (λ us. given (parameters us) (referring n))
+
+-- what the first keyword of an item says that it declares
+abbrev pub declares : ℕ → Option Declares
+declares w = if w == word.SORT then Some declare.Sort
+    else (if w == word.FUN then Some declare.Function
+    else (if w == word.PRED then Some declare.Predicate
+    else (if w == word.PROC then Some declare.Procedure else None)))
+
+abbrev pub eat_declares : List TokenKind → Read Declares
+eat_declares [] = None
+eat_declares (Word w ∷ ts) = given (declares w) (λ d. Some (d, ts))
+eat_declares (Ident n ∷ ts) = None
+eat_declares (Number k ∷ ts) = None
+eat_declares (Mark m ∷ ts) = None
+
+abbrev pub declaration : Declares → Name → List TokenKind → Read Item
+declaration declare.Sort n ts = Some (Item.Sort n, ts)
+declaration declare.Function n ts = function n ts
+declaration declare.Predicate n ts = predicate n ts
+declaration declare.Procedure n ts = procedure n ts
+
+-- an item behind its keyword, by its parts
+abbrev pub semicolon : Item × List TokenKind → Read Item
+semicolon r = given (eat_mark SEMICOLON r.1) (λ us. Some (r.0, us))
+
+abbrev pub named : Declares → Name × List TokenKind → Read Item
+named d n = given (declaration d n.0 n.1) semicolon
+
+abbrev pub item : Declares → List TokenKind → Read Item
+item d ts = given (eat_name ts) (named d)
+
+abbrev pub started : (List Item → List TokenKind → Read (List Item)) → List Item → Declares × List TokenKind → Read (List Item)
+started more done d = given (item d.0 d.1) (λ r. more (done ++ (r.0 ∷ [])) r.1)
 
 -- the items that are left, behind those that are done; the number bounds the turns
 unfoldable pub items : ℕ → List Item → List TokenKind → Read (List Item)
 items zero done ts = Some (done, ts)
-items (suc k) done ts = or_stay (Some (done, ts)) (item (items k) done) (eat_word word.PRED ts)
+items (suc k) done ts = or_stay (Some (done, ts)) (started (items k) done) (eat_declares ts)
 
 -- the head of a unit, by its parts
 abbrev pub ended : Name → List Item × List TokenKind → Read P.Unit
 ended n r = given (eat_word word.END r.1) (λ ts. Some (record { name = n; kind = Kind.Basic r.0; theorems = []; proofs = [] }, ts))
 
-abbrev pub listed : Name → List TokenKind → Read P.Unit
-listed n ts = given (items (length ts) [] ts) (ended n)
+abbrev pub itemized : Name → List TokenKind → Read P.Unit
+itemized n ts = given (items (length ts) [] ts) (ended n)
 
 abbrev pub titled : Name × List TokenKind → Read P.Unit
-titled r = given (eat_word word.BASIC r.1) (listed r.0)
+titled r = given (eat_word word.BASIC r.1) (itemized r.0)
 
 abbrev pub head : List TokenKind → Read P.Unit
 head ts = given (eat_word word.UNIT ts) (λ us. given (eat_name us) titled)

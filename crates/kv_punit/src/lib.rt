@@ -3,6 +3,7 @@
 
 mod commands;
 mod errors;
+mod items;
 mod labels;
 mod limits;
 mod names;

@@ -33,7 +33,8 @@ const THEOREMS: u64 = 5_000;
 /// The version of the format.
 const VERSION: u32 = 1;
 
-/// The project of a text: basic units of predicate symbols without arguments, with their theorems and proofs.
+/// The project of a text: basic units of sorts, functions, predicates and procedures without a body, with their theorems
+/// and proofs.
 ///
 /// Errors, the first that the text has: `Token` at the first byte from which no token reads, `Version` where it
 /// begins with `project` and another number than 1, `Syntax` where it isn't in the grammar or two units, two theorems

@@ -68,7 +68,7 @@ fn whole_texts(rt: HostRuntime) -> Result<(), Fail> {
 
 #[test]
 fn theorems_and_proofs(rt: HostRuntime) -> Result<(), Fail> {
-    let cases: [(&str, Option<TextError>); 39] = [
+    let cases: [(&str, Option<TextError>); 41] = [
         ("theorem t : (a -> b) -> a; proof t = open qed", None),
         ("theorem t : a; proof t = impR 1 qed", None),
         ("theorem t : a; proof t = impR 1; open qed", None),
@@ -98,7 +98,9 @@ fn theorems_and_proofs(rt: HostRuntime) -> Result<(), Fail> {
         ("theorem t : a; theorem u : a;", None),
         ("theorem t : a; theorem t : b;", FAULT),
         ("theorem t : c;", None),
-        ("theorem t : a(b);", FAULT),
+        ("theorem t : a(b);", None),
+        ("theorem t : all x : s . p(x, f(y)) <-> not x = y;", None),
+        ("theorem t : p(x,);", FAULT),
         ("theorem t : a -> ;", FAULT),
         ("theorem t : [a];", FAULT),
         ("theorem t : a", FAULT),
@@ -130,6 +132,68 @@ fn theorems_and_proofs(rt: HostRuntime) -> Result<(), Fail> {
     for (i, (text, want)) in cases.iter().enumerate() {
         let whole = repeated(rt.alloc(), text, "", 0, "")?;
         assert!(rt; refused(rt.alloc(), whole.as_bytes()) == *want, "case {i}");
+    }
+    Ok(())
+}
+
+/// Why a unit of these items isn't read, if it isn't.
+fn items_refused(alloc: Global, items: &str) -> Result<Option<TextError>, AllocError> {
+    let mut text = String::from_str(alloc, "unit A basic ")?;
+    text.push_str(items)?;
+    text.push_str(" end")?;
+    Ok(unit(alloc, text.as_bytes()).err())
+}
+
+#[test]
+fn sorts_and_functions(rt: HostRuntime) -> Result<(), Fail> {
+    let cases: [(&str, Option<TextError>); 16] = [
+        ("sort s;", None),
+        ("sort s", FAULT),
+        ("sort ;", FAULT),
+        ("sort s, t;", FAULT),
+        ("sort sort;", FAULT),
+        ("fun c : s;", None),
+        ("fun f : s -> t;", None),
+        ("fun f : s, t -> u;", None),
+        ("fun f : s, t;", FAULT),
+        ("fun f : -> s;", FAULT),
+        ("fun f : s -> ;", FAULT),
+        ("fun f : s -> t, u;", FAULT),
+        ("fun f : s -> t -> u;", FAULT),
+        ("fun f;", FAULT),
+        ("fun f : s; sort s; pred p; fun f : s;", None),
+        ("fun f : s; axiom a : p;", FAULT),
+    ];
+    for (i, (items, want)) in cases.iter().enumerate() {
+        assert!(rt; items_refused(rt.alloc(), items)? == *want, "case {i}");
+    }
+    Ok(())
+}
+
+#[test]
+fn predicates_and_procedures(rt: HostRuntime) -> Result<(), Fail> {
+    let cases: [(&str, Option<TextError>); 18] = [
+        ("pred p;", None),
+        ("pred p : s;", None),
+        ("pred p : s, t;", None),
+        ("pred p : ;", FAULT),
+        ("pred p : s,;", FAULT),
+        ("pred p : s -> t;", FAULT),
+        ("proc p(;);", None),
+        ("proc p(x : s;);", None),
+        ("proc p(; x : s);", None),
+        ("proc p(x : s, y : t; z : u);", None),
+        ("proc p();", FAULT),
+        ("proc p(x : s);", FAULT),
+        ("proc p(x; y : s);", FAULT),
+        ("proc p(x : s,;);", FAULT),
+        ("proc p(x : s; y : t;);", FAULT),
+        ("proc p;", FAULT),
+        ("proc p(;)", FAULT),
+        ("proc p(;) = { skip };", FAULT),
+    ];
+    for (i, (items, want)) in cases.iter().enumerate() {
+        assert!(rt; items_refused(rt.alloc(), items)? == *want, "case {i}");
     }
     Ok(())
 }

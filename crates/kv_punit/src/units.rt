@@ -16,6 +16,7 @@ ghost use Rattle.kv_punit.specs.Grammar.{IsLabelled, IsStatement, IsTheorem};
 ghost use Rattle.kv_punit.specs.Parse as spec;
 ghost use Rattle.kv_punit.specs.Readings.{IsLoneHead};
 
+use crate::items::{eat_declares, item};
 use crate::labels::proof_label;
 use crate::scripts::script;
 use crate::tokens::{end, mark, word};
@@ -78,15 +79,12 @@ fn items(alloc: Global, tokens: &[Token]) -> Result<(List<Item>, &[Token]), Read
     let mut items = List::new(alloc);
     let mut rest = tokens;
     for _turn in 0..tokens.len() {
-        let Some(after) = eat_word(rest, keyword::PRED) else {
+        let Some((kind, after)) = eat_declares(rest) else {
             return Ok((items, rest));
         };
-        let (name, after) = eat_name(alloc, after)?;
-        rest = mark(after, row::SEMICOLON)?;
-        items.push(Item::Pred {
-            name,
-            args: List::new(alloc),
-        })?;
+        let (item, after) = item(alloc, kind, after)?;
+        items.push(item)?;
+        rest = after;
     }
     Ok((items, rest))
 }

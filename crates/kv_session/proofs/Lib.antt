@@ -11,6 +11,7 @@ pub mod Lexes
 pub mod Spelt
 pub mod Rules
 pub mod Fitting
+pub mod FormReading
 pub mod Reading
 pub mod Back
 pub mod Utf8

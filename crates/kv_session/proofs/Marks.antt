@@ -6,7 +6,7 @@ use Rattle.std.proofs.lemmas.Str.{length-encode, len_utf8_bounds, encode_ascii}
 use Rattle.unicode_ident.proofs.IdentLemmas.{is_xid_start-ascii}
 use Rattle.kv_table.specs.Names.{row_of}
 use Rattle.kv_lex.specs.declared.token.TokenKind.TheVariants.{Mark}
-use Rattle.kv_lex.specs.declared.mark.TheConstants.{OPEN, CLOSE, OPEN_BRACE, CLOSE_BRACE, SEMICOLON, COLON, DOT, EQUAL, ARROW, BAR}
+use Rattle.kv_lex.specs.declared.mark.TheConstants.{OPEN, CLOSE, OPEN_BRACE, CLOSE_BRACE, COMMA, SEMICOLON, COLON, DOT, EQUAL, ARROW, DOUBLE_ARROW, BAR}
 use Rattle.kv_lex.specs.Marks.{mark_rows}
 use Rattle.kv_lex.specs.Tokens.{token_at, mark}
 
@@ -60,6 +60,10 @@ pub bar_token : (rest : List ℕ) → token_at (124 ∷ rest) ≡ Some (Mark BAR
 unfolding mark_rows
 bar_token rest = single_token 124 BAR rest (omega arith) refl refl refl (λ b bs. refl)
 
+pub comma_token : (rest : List ℕ) → token_at (44 ∷ rest) ≡ Some (Mark COMMA, rest)
+unfolding mark_rows
+comma_token rest = single_token 44 COMMA rest (omega arith) refl refl refl (λ b bs. refl)
+
 -- an arrow
 arrow_mark : (rest : List ℕ) → mark (45 ∷ 62 ∷ rest) ≡ Some (Mark ARROW, rest)
 unfolding mark_rows
@@ -69,6 +73,15 @@ arrow_mark (d ∷ rest) = let b = first_byte d in rw (encode_ascii 45 (omega ari
 pub arrow_token : (rest : List ℕ) → token_at (45 ∷ 62 ∷ rest) ≡ Some (Mark ARROW, rest)
 unfolding token_at
 arrow_token rest = rw (is_xid_start-ascii 45 (omega arith)) (arrow_mark rest)
+
+-- an arrow both ways
+double_arrow_mark : (rest : List ℕ) → mark (60 ∷ 45 ∷ 62 ∷ rest) ≡ Some (Mark DOUBLE_ARROW, rest)
+unfolding mark_rows
+double_arrow_mark rest = rw (encode_ascii 60 (omega arith), encode_ascii 45 (omega arith), encode_ascii 62 (omega arith))
+
+pub double_arrow_token : (rest : List ℕ) → token_at (60 ∷ 45 ∷ 62 ∷ rest) ≡ Some (Mark DOUBLE_ARROW, rest)
+unfolding token_at
+double_arrow_token rest = rw (is_xid_start-ascii 60 (omega arith)) (double_arrow_mark rest)
 
 -- a colon and an equals sign with a space behind them
 spaced_mark : (c row : ℕ) (rest : List ℕ) → c < 128 → row_of mark_rows (c ∷ []) ≡ Some row → ((bs : List ℕ) → row_of mark_rows (c ∷ 32 ∷ bs) ≡ None)

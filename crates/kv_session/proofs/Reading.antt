@@ -1,69 +1,33 @@
 -- The tokens of a layout are read as what is laid out.
-use Rattle.std.proofs.Common.{ℕ, zero, suc, ◌≡◌, ◌≤◌, ◌<◌, List, [], ◌∷◌, ◌++◌, arith}
-use Rattle.std.specs.Prelude.{Bool, false, codes, flat_map}
+use Rattle.std.proofs.Common.{ℕ, suc, ◌≡◌, List, [], ◌∷◌, ◌++◌}
+use Rattle.std.specs.Prelude.{Bool, false, None, codes, flat_map}
 use Rattle.std.specs.List.{All}
 use Rattle.std.proofs.lemmas.List.Elements.{All-head, All-tail}
 use Rattle.kv_lex.specs.Marks.{mark_rows}
 use Rattle.kv_lex.specs.declared.mark.TheConstants.{CLOSE, OPEN_BRACE, CLOSE_BRACE, SEMICOLON, EQUAL, ARROW, BAR}
 use Rattle.kv_lex.specs.declared.token.TokenKind.{TokenKind}
-use Rattle.kv_lex.specs.declared.token.TokenKind.TheVariants.{Word as WordToken, Mark as MarkToken}
-use Rattle.kv_pexpr.specs.Grammar.{IsImp, IsCon, IsUna, ReadsForm}
-use Rattle.kv_pexpr.specs.Grammar as f
-use Rattle.kv_print.specs.Forms.{operand, printed_form, form_pieces}
+use Rattle.kv_lex.specs.declared.token.TokenKind.TheVariants.{Word as WordToken, Ident as IdentToken, Mark as MarkToken}
+use Rattle.kv_pexpr.specs.Grammar.{ReadsForm}
+use Rattle.kv_print.specs.Forms.{form_pieces, names_pieces}
+use Rattle.kv_print.specs.Items.{ref_vars_pieces, vars_pieces}
 use Rattle.kv_print.specs.Layout.{item_pieces, theorem_pieces, proof_pieces, unit_pieces, project_pieces}
 use Rattle.kv_print.specs.Pieces.{Piece}
 use Rattle.kv_print.specs.Pieces.Piece.{Space, Break, Word, Mark}
 use Rattle.kv_print.specs.Scripts.{step_pieces, script_pieces, other_children}
 use Rattle.kv_punit.specs.Grammar as g
 use Rattle.kv_session.specs.Spellable as s
+use Rattle.kv_session.proofs.FormReading.{reads_form}
 use Rattle.kv_session.proofs.Labels.{label_reads, label_no_colon}
 use Rattle.kv_session.proofs.Rules.{one_word, two_word}
 use Rattle.kv_session.proofs.Tokens.{before, before_append}
 use Rattle.kv_syn.specs.Projects.{Theorem, Proof, Item, Kind, Project}
 use Rattle.kv_syn.specs.Projects as P
-use Rattle.kv_syn.specs.RawCount.{raw_form_depth}
 use Rattle.kv_syn.specs.RawTrees.{RawForm}
 use Rattle.kv_syn.specs.Scripts.{Step, Script, Scripts}
 use Rattle.kv_syn.specs.Trees.{Name}
+use Rattle.kv_syn.specs.declared.symbols.Var.{Var}
 use Rattle.kv_table.specs.Tables.{keyword_rows}
 use Rattle.kv_table.specs.declared.keyword.TheConstants as word
-
--- ---- formulas
-
--- an operand is read by the innermost rule, and the whole by the outermost
-record FormReads (form : RawForm) : Type 0 where
-  pub inner : (d : ℕ) (us : List TokenKind) → raw_form_depth form ≤ d → IsUna d (before (operand (printed_form form)) us) form us
-  pub outer : (d : ℕ) (us : List TokenKind) → raw_form_depth form ≤ suc d → IsImp d (before (form_pieces form) us) form us
-
-bracketed : (form : RawForm) (ps : List Piece) → 0 < raw_form_depth form → ((d : ℕ) (us : List TokenKind) → raw_form_depth form ≤ suc d → IsImp d (before ps us) form us)
-    → (d : ℕ) (us : List TokenKind) → raw_form_depth form ≤ d → IsUna d (before (Mark (codes "(") ∷ ps ++ Mark (codes ")") ∷ []) us) form us
-unfolding mark_rows
-bracketed form ps some outer zero us low = absurd (omega arith)
-bracketed form ps some outer (suc d) us low = rw (before_append ps (Mark (codes ")") ∷ []) us) (f.brackets (outer d (MarkToken CLOSE ∷ us) low))
-
-and_outer : (p q : RawForm) → FormReads p → FormReads q → (d : ℕ) (us : List TokenKind) → raw_form_depth (RawForm.And p q) ≤ suc d → IsImp d (before (form_pieces (RawForm.And p q)) us) (RawForm.And p q) us
-unfolding keyword_rows
-and_outer p q r s d us low =
-    rw (before_append (operand (printed_form p)) (Space ∷ Word (codes "and") ∷ Space ∷ operand (printed_form q)) us)
-    (f.con (f.and (f.una (r.inner d (WordToken word.AND ∷ before (operand (printed_form q)) us) (omega arith))) (s.inner d us (omega arith))))
-
-imp_outer : (p q : RawForm) → FormReads p → FormReads q → (d : ℕ) (us : List TokenKind) → raw_form_depth (RawForm.Imp p q) ≤ suc d → IsImp d (before (form_pieces (RawForm.Imp p q)) us) (RawForm.Imp p q) us
-unfolding mark_rows
-imp_outer p q r s d us low =
-    rw (before_append (operand (printed_form p)) (Space ∷ Mark (codes "->") ∷ Space ∷ operand (printed_form q)) us)
-    (f.arrow (f.una (r.inner d (MarkToken ARROW ∷ before (operand (printed_form q)) us) (omega arith))) (f.con (f.una (s.inner d us (omega arith)))))
-
-form_reads : {form : RawForm} → s.IsForm form → FormReads form
-form_reads (s.atom is) = record { inner = λ d us low. f.atom; outer = λ d us low. f.con (f.una f.atom) }
-form_reads (s.and {f = p} {g = q} r s) =
-    let outer = and_outer p q (form_reads r) (form_reads s) in
-    record { inner = bracketed (RawForm.And p q) (form_pieces (RawForm.And p q)) (omega arith) outer; outer = outer }
-form_reads (s.imp {f = p} {g = q} r s) =
-    let outer = imp_outer p q (form_reads r) (form_reads s) in
-    record { inner = bracketed (RawForm.Imp p q) (form_pieces (RawForm.Imp p q)) (omega arith) outer; outer = outer }
-
-pub reads_form : (form : RawForm) (us : List TokenKind) → s.IsForm form → raw_form_depth form ≤ 150 → ReadsForm (before (form_pieces form) us) form us
-reads_form form us is low = ((form_reads is).outer 150 us (omega arith), low)
 
 -- ---- scripts
 
@@ -119,17 +83,50 @@ mutual
   block_reads (s.more {n = n} {s = next} {rest = rest} is are) script child us =
       block_more n script next rest child (block_reads are next (λ us. script_reads is us)) us
 
--- ---- items, theorems and proofs
+-- ---- items
 
-item_reads : {item : Item} → s.IsItem item → (rest : List Item) (ts us : List TokenKind) → g.AreItems ts rest us → g.AreItems (before (item_pieces item) ts) (item ∷ rest) us
+names_read : (x : Name) (xs : List Name) (us : List TokenKind) → g.AreNames (before (names_pieces (x ∷ xs)) us) (x ∷ xs) us
+unfolding mark_rows
+names_read x [] us = g.last g.name
+names_read x (y ∷ ys) us = g.more g.name (names_read y ys us)
+
+vars_read : (x : Var) (xs : List Var) (us : List TokenKind) → g.Listed g.IsParameter (before (vars_pieces (x ∷ xs)) us) (x ∷ xs) us
+unfolding mark_rows
+vars_read x [] us = g.last g.parameter
+vars_read x (y ∷ ys) us = g.more g.parameter (vars_read y ys us)
+
+values_read : (xs : List Var) (us : List TokenKind) → g.AreParameters (before (vars_pieces xs) us) xs us
+values_read [] us = g.none
+values_read (x ∷ xs) us = g.some (vars_read x xs us)
+
+refs_read : (xs : List Var) (us : List TokenKind) → g.AreParameters (before (ref_vars_pieces xs) us) xs us
+refs_read [] us = g.none
+refs_read (x ∷ xs) us = g.some (vars_read x xs us)
+
+function_reads : (f r : Name) (args : List Name) (us : List TokenKind) → g.IsItem (before (item_pieces (Item.Fun f args r)) us) (Item.Fun f args r) us
 unfolding keyword_rows mark_rows
-item_reads (s.pred is) rest ts us are = g.pred are
+function_reads f r [] us = g.item g.constant
+function_reads f r (x ∷ xs) us = simp before_append (g.item (g.function (names_read x xs (MarkToken ARROW ∷ IdentToken r ∷ MarkToken SEMICOLON ∷ us))))
 
-items_read : (items : List Item) → All s.IsItem items → (us : List TokenKind) → g.AreItems (before (flat_map item_pieces items) us) items us
-items_read [] all us = g.none
-items_read (item ∷ items) all us =
-    rw (before_append (item_pieces item) (flat_map item_pieces items) us)
-    (item_reads (All-head s.IsItem item items all) items (before (flat_map item_pieces items) us) us (items_read items (All-tail s.IsItem item items all) us))
+predicate_reads : (p : Name) (args : List Name) (us : List TokenKind) → g.IsItem (before (item_pieces (Item.Pred p args)) us) (Item.Pred p args) us
+unfolding keyword_rows mark_rows
+predicate_reads p [] us = g.item g.proposition
+predicate_reads p (x ∷ xs) us = simp before_append (g.item (g.predicate (names_read x xs (MarkToken SEMICOLON ∷ us))))
+
+procedure_reads : (p : Name) (values refs : List Var) (us : List TokenKind) → g.IsItem (before (item_pieces (Item.Proc p values refs None)) us) (Item.Proc p values refs None) us
+unfolding keyword_rows mark_rows
+procedure_reads p values refs us =
+    simp before_append
+    (g.item (g.procedure (values_read values (MarkToken SEMICOLON ∷ before (ref_vars_pieces refs) (MarkToken CLOSE ∷ MarkToken SEMICOLON ∷ us))) (refs_read refs (MarkToken CLOSE ∷ MarkToken SEMICOLON ∷ us))))
+
+item_reads : (item : Item) → s.IsItem item → (us : List TokenKind) → g.IsItem (before (item_pieces item) us) item us
+unfolding keyword_rows mark_rows
+item_reads _ (s.sort is) us = g.item g.sort
+item_reads _ (s.function {f = f} {r = r} {args = args} is are into) us = function_reads f r args us
+item_reads _ (s.predicate {p = p} {args = args} is are) us = predicate_reads p args us
+item_reads _ (s.procedure {p = p} {values = values} {refs = refs} is are others) us = procedure_reads p values refs us
+
+-- ---- theorems and proofs
 
 theorem_at : (n : Name) (simp_mark : Bool) (form : RawForm) (us : List TokenKind) → simp_mark ≡ false → ReadsForm (before (form_pieces form) (MarkToken SEMICOLON ∷ us)) form (MarkToken SEMICOLON ∷ us)
     → g.IsTheorem (before (theorem_pieces (record { name = n; simp = simp_mark; form = form })) us) (record { name = n; simp = simp_mark; form = form }) us
@@ -161,7 +158,7 @@ unit_at n theorems proofs us (s.basic {items = items} all) stated proved =
     let ws = before (flat_map proof_pieces proofs) us in
     let vs = before (flat_map theorem_pieces theorems) ws in
     simp before_append
-    (g.unit (g.head (items_read items all (WordToken word.END ∷ vs))) (are_read s.IsTheorem g.IsTheorem theorem_pieces theorem_reads theorems stated ws) (are_read s.IsProof g.IsProof proof_pieces proof_reads proofs proved us))
+    (g.unit (g.head (are_read s.IsItem g.IsItem item_pieces item_reads items all (WordToken word.END ∷ vs))) (are_read s.IsTheorem g.IsTheorem theorem_pieces theorem_reads theorems stated ws) (are_read s.IsProof g.IsProof proof_pieces proof_reads proofs proved us))
 
 unit_reads : (unit : P.Unit) → s.IsUnit unit → (us : List TokenKind) → g.IsUnit (before (unit_pieces unit) us) unit us
 unit_reads unit is us = unit_at unit.name unit.theorems unit.proofs us is.kind is.theorems is.proofs

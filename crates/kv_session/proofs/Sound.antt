@@ -5,7 +5,7 @@ use Rattle.std.specs.List.{All}
 use Rattle.std.proofs.lemmas.List.Elements.{All-nil, All-cons}
 use Rattle.std.proofs.lemmas.List.Folds.{list_any-append}
 use Rattle.kv_lex.specs.declared.token.TokenKind.{TokenKind}
-use Rattle.kv_pexpr.specs.Grammar.{IsImp, IsCon, IsUna}
+use Rattle.kv_pexpr.specs.Grammar.{IsTerm, AreTerms, IsForm, IsImp, IsDis, IsCon, IsUna}
 use Rattle.kv_pexpr.specs.Grammar as f
 use Rattle.kv_punit.specs.Commands.{Command, HasShortScript}
 use Rattle.kv_punit.specs.Grammar.{has_colon}
@@ -16,21 +16,53 @@ use Rattle.kv_session.specs.Edits.{Edit}
 use Rattle.kv_session.specs.Sessions.{edit_of}
 use Rattle.kv_session.proofs.Good.{AreGood, lexed_good}
 use Rattle.kv_session.specs.Spellable as s
-use Rattle.kv_syn.specs.Projects.{Theorem, Proof, Item, Kind, Project}
+use Rattle.kv_syn.specs.Projects.{Theorem, Proof, Item, Project}
 use Rattle.kv_syn.specs.Projects as P
-use Rattle.kv_syn.specs.RawTrees.{RawForm}
+use Rattle.kv_syn.specs.RawTrees.{RawTerm, RawTerms, RawForm}
 use Rattle.kv_syn.specs.Scripts.{Step, Script, Scripts}
 use Rattle.kv_syn.specs.Trees.{Name}
+use Rattle.kv_syn.specs.declared.symbols.Var.{Var}
+
+-- ---- terms
+
+mutual
+  term_spelt : {d : ℕ} {ts us : List TokenKind} {t : RawTerm} → IsTerm d ts t us → AreGood ts → s.IsTerm t × AreGood us
+  term_spelt f.name good = (s.app good.0 s.none, good.1)
+  term_spelt (f.applied r) good = let args = terms_spelt r good.1.1 in (s.app good.0 args.0, args.1.1)
+
+  terms_spelt : {d : ℕ} {ts us : List TokenKind} {args : RawTerms} → AreTerms d ts args us → AreGood ts → s.AreTerms args × AreGood us
+  terms_spelt (f.last r) good = let first = term_spelt r good in (s.more first.0 s.none, first.1)
+  terms_spelt (f.more r rs) good =
+      let first = term_spelt r good in
+      let rest = terms_spelt rs first.1.1 in
+      (s.more first.0 rest.0, rest.1)
+
+application : {n : Name} {args : RawTerms} → s.IsTerm (RawTerm.App n args) → s.IsForm (RawForm.Atom n args)
+application (s.app is are) = s.atom is are
 
 -- ---- formulas
 
 mutual
+  form_spelt : {d : ℕ} {ts us : List TokenKind} {p : RawForm} → IsForm d ts p us → AreGood ts → s.IsForm p × AreGood us
+  form_spelt (f.imp r) good = imp_spelt r good
+  form_spelt (f.iff r q) good =
+      let left = imp_spelt r good in
+      let right = imp_spelt q left.1.1 in
+      (s.iff left.0 right.0, right.1)
+
   imp_spelt : {d : ℕ} {ts us : List TokenKind} {p : RawForm} → IsImp d ts p us → AreGood ts → s.IsForm p × AreGood us
-  imp_spelt (f.con r) good = con_spelt r good
+  imp_spelt (f.dis r) good = dis_spelt r good
   imp_spelt (f.arrow r q) good =
-      let left = con_spelt r good in
+      let left = dis_spelt r good in
       let right = imp_spelt q left.1.1 in
       (s.imp left.0 right.0, right.1)
+
+  dis_spelt : {d : ℕ} {ts us : List TokenKind} {p : RawForm} → IsDis d ts p us → AreGood ts → s.IsForm p × AreGood us
+  dis_spelt (f.con r) good = con_spelt r good
+  dis_spelt (f.or r q) good =
+      let left = dis_spelt r good in
+      let right = con_spelt q left.1.1 in
+      (s.or left.0 right.0, right.1)
 
   con_spelt : {d : ℕ} {ts us : List TokenKind} {p : RawForm} → IsCon d ts p us → AreGood ts → s.IsForm p × AreGood us
   con_spelt (f.una r) good = una_spelt r good
@@ -40,8 +72,17 @@ mutual
       (s.and left.0 right.0, right.1)
 
   una_spelt : {d : ℕ} {ts us : List TokenKind} {p : RawForm} → IsUna d ts p us → AreGood ts → s.IsForm p × AreGood us
-  una_spelt f.atom good = (s.atom good.0, good.1)
-  una_spelt (f.brackets r) good = let inner = imp_spelt r good.1 in (inner.0, inner.1.1)
+  una_spelt (f.not r) good = let inner = una_spelt r good.1 in (s.not inner.0, inner.1)
+  una_spelt (f.all r) good = let inner = una_spelt r good.1.1.1.1.1 in (s.all (record { name = good.1.0; sort = good.1.1.1.0 }) inner.0, inner.1)
+  una_spelt (f.ex r) good = let inner = una_spelt r good.1.1.1.1.1 in (s.ex (record { name = good.1.0; sort = good.1.1.1.0 }) inner.0, inner.1)
+  una_spelt f.true good = (s.truth, good.1)
+  una_spelt f.false good = (s.falsehood, good.1)
+  una_spelt (f.brackets r) good = let inner = form_spelt r good.1 in (inner.0, inner.1.1)
+  una_spelt (f.atom r) good = let term = term_spelt r good in (application term.0, term.1)
+  una_spelt (f.equal r q) good =
+      let left = term_spelt r good in
+      let right = term_spelt q left.1.1 in
+      (s.equal left.0 right.0, right.1)
 
 -- ---- labels
 
@@ -86,17 +127,48 @@ mutual
       let rest = scripts_spelt ks child.1.1 in
       (s.more child.0 rest.0, rest.1)
 
--- ---- items, theorems, proofs, units
+-- ---- items
 
-items_spelt : {ts us : List TokenKind} {items : List Item} → g.AreItems ts items us → AreGood ts → All s.IsItem items × AreGood us
-items_spelt g.none good = (All-nil s.IsItem, good)
-items_spelt (g.pred {n = n} {items = items} r) good =
-    let rest = items_spelt r good.1.1.1 in
-    (All-cons s.IsItem (Item.Pred n []) items (s.pred good.1.0) rest.0, rest.1)
+listed_spelt : {X : Type 0} (Q : X → Type 0) (Is : List TokenKind → X → List TokenKind → Type 0) → ((x : X) (ts us : List TokenKind) → Is ts x us → AreGood ts → Q x × AreGood us)
+    → {ts us : List TokenKind} {xs : List X} → g.Listed Is ts xs us → AreGood ts → All Q xs × AreGood us
+listed_spelt Q Is one (g.last {ts = ts} {us = us} {x = x} r) good = let first = one x ts us r good in (All-cons Q x [] first.0 (All-nil Q), first.1)
+listed_spelt Q Is one (g.more {ts = ts} {x = x} {rest = rest} r rs) good =
+    let first = one x ts _ r good in
+    let others = listed_spelt Q Is one rs first.1.1 in
+    (All-cons Q x rest first.0 others.0, others.1)
+
+name_spelt : (n : Name) (ts us : List TokenKind) → g.IsName ts n us → AreGood ts → s.IsName n × AreGood us
+name_spelt _ _ _ g.name good = good
+
+names_spelt : {ts us : List TokenKind} {xs : List Name} → g.AreNames ts xs us → AreGood ts → All s.IsName xs × AreGood us
+names_spelt r good = listed_spelt s.IsName g.IsName name_spelt r good
+
+parameter_spelt : (x : Var) (ts us : List TokenKind) → g.IsParameter ts x us → AreGood ts → s.IsVar x × AreGood us
+parameter_spelt _ _ _ g.parameter good = (record { name = good.0; sort = good.1.1.0 }, good.1.1.1)
+
+parameters_spelt : {ts us : List TokenKind} {xs : List Var} → g.AreParameters ts xs us → AreGood ts → All s.IsVar xs × AreGood us
+parameters_spelt g.none good = (All-nil s.IsVar, good)
+parameters_spelt (g.some r) good = listed_spelt s.IsVar g.IsParameter parameter_spelt r good
+
+declaration_spelt : {ts us : List TokenKind} {item : Item} → g.IsDeclaration ts item us → AreGood ts → s.IsItem item × AreGood us
+declaration_spelt g.sort good = (s.sort good.1.0, good.1.1)
+declaration_spelt g.constant good = (s.function good.1.0 (All-nil s.IsName) good.1.1.1.0, good.1.1.1.1)
+declaration_spelt (g.function r) good = let args = names_spelt r good.1.1.1 in (s.function good.1.0 args.0 args.1.1.0, args.1.1.1)
+declaration_spelt g.proposition good = (s.predicate good.1.0 (All-nil s.IsName), good.1.1)
+declaration_spelt (g.predicate r) good = let args = names_spelt r good.1.1.1 in (s.predicate good.1.0 args.0, args.1)
+declaration_spelt (g.procedure r q) good =
+    let values = parameters_spelt r good.1.1.1 in
+    let refs = parameters_spelt q values.1.1 in
+    (s.procedure good.1.0 values.0 refs.0, refs.1.1)
+
+item_spelt : (item : Item) (ts us : List TokenKind) → g.IsItem ts item us → AreGood ts → s.IsItem item × AreGood us
+item_spelt _ _ _ (g.item r) good = let declaration = declaration_spelt r good in (declaration.0, declaration.1.1)
+
+-- ---- theorems, proofs, units
 
 statement_spelt : (theorem : Theorem) (ts us : List TokenKind) → g.IsStatement ts theorem us → AreGood ts → s.IsTheorem theorem × AreGood us
 statement_spelt _ _ _ (g.statement r) good =
-    let form = imp_spelt r.0 good.1.1 in
+    let form = form_spelt r.0 good.1.1 in
     (record { name = good.0; unmarked = refl; form = form.0; low = r.1 }, form.1)
 
 theorem_spelt : (theorem : Theorem) (ts us : List TokenKind) → g.IsTheorem ts theorem us → AreGood ts → s.IsTheorem theorem × AreGood us
@@ -121,7 +193,7 @@ are_spelt Q Is one (g.more {ts = ts} {us = us} {x = x} {rest = rest} r rs) good 
 
 head_spelt : (unit : P.Unit) (ts us : List TokenKind) → g.IsHead ts unit us → AreGood ts → s.IsHead unit × AreGood us
 head_spelt _ _ _ (g.head r) good =
-    let items = items_spelt r good.1.1.1 in
+    let items = are_spelt s.IsItem g.IsItem item_spelt r good.1.1.1 in
     (record { name = good.1.0; kind = s.basic items.0; no_theorems = refl; no_proofs = refl }, items.1.1)
 
 unit_spelt : (unit : P.Unit) (ts us : List TokenKind) → g.IsUnit ts unit us → AreGood ts → s.IsUnit unit × AreGood us

@@ -2,7 +2,7 @@
 use Rattle.std.proofs.Common.{ℕ, ◌≡◌, ◌≤◌, ◌<◌, List, [], ◌∷◌, ◌++◌, length, refl, ap, ◌∙◌, sym, arith, inl, inr, append_assoc}
 use Rattle.std.specs.Prelude.{true, false, ◌||◌, ◌==◌, nat_le, Option, Some, None, unwrap_or, decimal, ◌⊎◌}
 use Rattle.std.specs.Char.{is_ascii_digit, is_ascii_alphanumeric}
-use Rattle.std.specs.Str.{chars, all_ascii_digits}
+use Rattle.std.specs.Str.{chars, all_ascii_digits, IsAscii}
 use Rattle.std.proofs.lemmas.Bool.{cases_lt}
 use Rattle.std.proofs.lemmas.Bool.Decides.{nat_tests}
 use Rattle.std.proofs.lemmas.Str.{chars-nil, chars-IsAscii, IsUtf8-from_ascii}
@@ -10,7 +10,7 @@ use Rattle.unicode_ident.specs.Ident.{is_xid_start, is_xid_continue}
 use Rattle.unicode_ident.proofs.IdentLemmas.{is_xid_start-ascii, is_xid_continue-ascii}
 use Rattle.kv_lex.specs.Marks.{mark_rows}
 use Rattle.kv_lex.specs.Tokens.{token_at, is_blank, word, word_or_name}
-use Rattle.kv_lex.specs.declared.mark.TheConstants.{OPEN, CLOSE, OPEN_BRACE, CLOSE_BRACE, SEMICOLON, COLON, DOT, EQUAL, ARROW, BAR}
+use Rattle.kv_lex.specs.declared.mark.TheConstants.{OPEN, CLOSE, OPEN_BRACE, CLOSE_BRACE, COMMA, SEMICOLON, COLON, DOT, EQUAL, ARROW, DOUBLE_ARROW, BAR}
 use Rattle.kv_lex.specs.declared.token.TokenKind.{TokenKind}
 use Rattle.kv_lex.specs.declared.token.TokenKind.TheVariants.{Word, Ident, Number, Mark}
 use Rattle.kv_print.specs.Pieces.{Piece, spell}
@@ -49,7 +49,10 @@ sign_stops _ text k.brace = stop_at 123 text (omega arith) refl refl
 sign_stops _ text k.end_brace = stop_at 125 text (omega arith) refl refl
 sign_stops _ text k.semicolon = stop_at 59 text (omega arith) refl refl
 sign_stops _ text k.bar = stop_at 124 text (omega arith) refl refl
+sign_stops _ text k.comma = stop_at 44 text (omega arith) refl refl
+sign_stops _ text k.dot = stop_at 46 text (omega arith) refl refl
 sign_stops _ text k.arrow = stop_at 45 (62 ∷ text) (omega arith) refl refl
+sign_stops _ text k.double_arrow = stop_at 60 (45 ∷ 62 ∷ text) (omega arith) refl refl
 
 ends_stop : (ps : List Piece) → Ends ps → Stop (spell ps)
 ends_stop [] e = stop_end
@@ -129,6 +132,18 @@ lexes_arrow text ks l =
     (record { first = 45; others = 62 ∷ []; is = arrow_chars; no_blank = refl; no_comment = refl })
     (rw arrow_chars (m.arrow_token (chars text))) l
 
+double_arrow_chars : chars (60 ∷ 45 ∷ 62 ∷ []) ≡ 60 ∷ 45 ∷ 62 ∷ []
+double_arrow_chars = ascii_chars 60 (45 ∷ 62 ∷ []) (omega arith) ∙ ap (λ cs. 60 ∷ cs) arrow_chars
+
+double_arrow_ascii : IsAscii (60 ∷ 45 ∷ 62 ∷ [])
+double_arrow_ascii = ascii_first 60 (45 ∷ 62 ∷ []) (omega arith) (ascii_first 45 (62 ∷ []) (omega arith) (ascii_first 62 [] (omega arith) ascii_none))
+
+lexes_double_arrow : (text : List ℕ) (ks : List TokenKind) → Lexes text ks → Lexes (60 ∷ 45 ∷ 62 ∷ text) (Mark DOUBLE_ARROW ∷ ks)
+lexes_double_arrow text ks l =
+    lexes_token (60 ∷ 45 ∷ 62 ∷ []) text (Mark DOUBLE_ARROW) ks (IsUtf8-from_ascii (60 ∷ 45 ∷ 62 ∷ []) double_arrow_ascii)
+    (record { first = 60; others = 45 ∷ 62 ∷ []; is = double_arrow_chars; no_blank = refl; no_comment = refl })
+    (rw double_arrow_chars (m.double_arrow_token (chars text))) l
+
 lexes_closed : (sign text : List ℕ) (ks : List TokenKind) → IsClosed sign → Lexes text ks → Lexes (sign ++ text) (Mark (unwrap_or (row_of mark_rows sign) 0) ∷ ks)
 unfolding mark_rows
 lexes_closed _ text ks k.bracket l = lexes_sign 40 OPEN text ks (omega arith) refl refl (m.open_token (chars text)) l
@@ -137,7 +152,10 @@ lexes_closed _ text ks k.brace l = lexes_sign 123 OPEN_BRACE text ks (omega arit
 lexes_closed _ text ks k.end_brace l = lexes_sign 125 CLOSE_BRACE text ks (omega arith) refl refl (m.close_brace_token (chars text)) l
 lexes_closed _ text ks k.semicolon l = lexes_sign 59 SEMICOLON text ks (omega arith) refl refl (m.semicolon_token (chars text)) l
 lexes_closed _ text ks k.bar l = lexes_sign 124 BAR text ks (omega arith) refl refl (m.bar_token (chars text)) l
+lexes_closed _ text ks k.comma l = lexes_sign 44 COMMA text ks (omega arith) refl refl (m.comma_token (chars text)) l
+lexes_closed _ text ks k.dot l = lexes_sign 46 DOT text ks (omega arith) refl refl (m.dot_token (chars text)) l
 lexes_closed _ text ks k.arrow l = lexes_arrow text ks l
+lexes_closed _ text ks k.double_arrow l = lexes_double_arrow text ks l
 
 lexes_loose : (sign : List ℕ) (ps : List Piece) (ks : List TokenKind) → IsLoose sign → Spaced ps → Lexes (spell ps) ks → Lexes (sign ++ spell ps) (Mark (unwrap_or (row_of mark_rows sign) 0) ∷ ks)
 unfolding mark_rows

@@ -47,7 +47,10 @@ pub data IsClosed : List ℕ → Type 0 where
   end_brace : IsClosed (codes "}")
   semicolon : IsClosed (codes ";")
   bar : IsClosed (codes "|")
+  comma : IsClosed (codes ",")
+  dot : IsClosed (codes ".")
   arrow : IsClosed (codes "->")
+  double_arrow : IsClosed (codes "<->")
 
 pub data IsLoose : List ℕ → Type 0 where
   colon : IsLoose (codes ":")

@@ -1,5 +1,5 @@
 -- The projects that a text can spell: what the tokens, the grammar and the limits ask of each part.
-use Rattle.std.specs.Prelude.{ℕ, suc, ◌≡◌, ◌≤◌, ◌<◌, ◌^◌, true, false, List, [], ◌∷◌, ◌++◌, Some}
+use Rattle.std.specs.Prelude.{ℕ, suc, ◌≡◌, ◌≤◌, ◌<◌, ◌^◌, true, false, List, [], ◌∷◌, ◌++◌, Some, None}
 use Rattle.std.specs.List.{All}
 use Rattle.std.specs.Str.{chars, IsUtf8}
 use Rattle.kv_lex.specs.Tokens.{token_at}
@@ -11,9 +11,10 @@ use Rattle.kv_session.specs.Edits.{Edit}
 use Rattle.kv_syn.specs.Projects.{Theorem, Proof, Item, Kind}
 use Rattle.kv_syn.specs.Projects as P
 use Rattle.kv_syn.specs.RawCount.{raw_form_depth}
-use Rattle.kv_syn.specs.RawTrees.{RawForm, RawTerms}
+use Rattle.kv_syn.specs.RawTrees.{RawTerm, RawTerms, RawForm}
 use Rattle.kv_syn.specs.Scripts.{Step, Script, Scripts}
 use Rattle.kv_syn.specs.Trees.{Name}
+use Rattle.kv_syn.specs.declared.symbols.Var.{Var}
 
 -- a text that reads as one name, and so as no keyword
 pub record IsName (name : Name) : Type 0 where
@@ -29,11 +30,33 @@ pub data IsLabel : Name → Type 0 where
 abbrev pub IsNumber : ℕ → Type 0
 IsNumber n = n < 10 ^ 9
 
--- formulas of atoms without arguments, `and` and arrows
+-- a variable with its sort
+pub record IsVar (x : Var) : Type 0 where
+  pub name : IsName x.name
+  pub sort : IsName x.sort
+
+-- terms over such names
+mutual
+  pub data IsTerm : RawTerm → Type 0 where
+    app : {f : Name} {args : RawTerms} → IsName f → AreTerms args → IsTerm (RawTerm.App f args)
+
+  pub data AreTerms : RawTerms → Type 0 where
+    none : AreTerms RawTerms.none
+    more : {t : RawTerm} {rest : RawTerms} → IsTerm t → AreTerms rest → AreTerms (RawTerms.more t rest)
+
+-- formulas without programs
 pub data IsForm : RawForm → Type 0 where
-  atom : {n : Name} → IsName n → IsForm (RawForm.Atom n RawTerms.none)
+  truth : IsForm RawForm.True
+  falsehood : IsForm RawForm.False
+  atom : {p : Name} {args : RawTerms} → IsName p → AreTerms args → IsForm (RawForm.Atom p args)
+  equal : {t u : RawTerm} → IsTerm t → IsTerm u → IsForm (RawForm.Equal t u)
+  not : {f : RawForm} → IsForm f → IsForm (RawForm.Not f)
   and : {f g : RawForm} → IsForm f → IsForm g → IsForm (RawForm.And f g)
+  or : {f g : RawForm} → IsForm f → IsForm g → IsForm (RawForm.Or f g)
   imp : {f g : RawForm} → IsForm f → IsForm g → IsForm (RawForm.Imp f g)
+  iff : {f g : RawForm} → IsForm f → IsForm g → IsForm (RawForm.Iff f g)
+  all : {x : Var} {f : RawForm} → IsVar x → IsForm f → IsForm (RawForm.All x f)
+  ex : {x : Var} {f : RawForm} → IsVar x → IsForm f → IsForm (RawForm.Ex x f)
 
 -- steps with the numbers that their rule takes
 pub data IsStep : Step → Type 0 where
@@ -50,8 +73,12 @@ mutual
     none : {n : ℕ} → AreScripts n Scripts.none
     more : {n : ℕ} {s : Script} {rest : Scripts} → IsScript n s → AreScripts n rest → AreScripts n (Scripts.more s rest)
 
+-- sorts, functions, predicates, and procedures without a body
 pub data IsItem : Item → Type 0 where
-  pred : {n : Name} → IsName n → IsItem (Item.Pred n [])
+  sort : {n : Name} → IsName n → IsItem (Item.Sort n)
+  function : {f r : Name} {args : List Name} → IsName f → All IsName args → IsName r → IsItem (Item.Fun f args r)
+  predicate : {p : Name} {args : List Name} → IsName p → All IsName args → IsItem (Item.Pred p args)
+  procedure : {p : Name} {values refs : List Var} → IsName p → All IsVar values → All IsVar refs → IsItem (Item.Proc p values refs None)
 
 pub record IsTheorem (theorem : Theorem) : Type 0 where
   pub name : IsName theorem.name

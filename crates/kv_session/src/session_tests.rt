@@ -95,3 +95,28 @@ fn nothing_changes(rt: HostRuntime) -> Result<(), Fail> {
     assert_eq!(rt; given.as_slice(), wanted.as_slice());
     Ok(())
 }
+
+const FORMS: &[u8] =
+    b"project 1\nunit S basic\n  sort s;\n  fun c : s;\n  fun f : s, s -> s;\n  pred p;\n  pred q : s;\n  proc r(x : s, y : s; z : s);\n  proc n(;);\nend\ntheorem t : all x : s . (p -> not q(x));\ntheorem u : true <-> (ex y : s . f(y, c) = y or (q(c) and false));\n";
+
+/// Each kind of item and of formula is saved as a text that reads as it.
+#[test]
+fn each_form(rt: HostRuntime) -> Result<(), Fail> {
+    let alloc = rt.alloc();
+    let commands: [&[u8]; 4] = [
+        b"add unit S basic sort s;fun c:s;fun f:s,s->s;pred p;pred q:s;proc r(x:s,y:s;z:s);proc n(;);end",
+        b"theorem S t : all x:s.(p->not q(x))",
+        b"theorem S u : true<->ex y:s.f(y,c)=y or q(c)and false",
+        b"save",
+    ];
+    let given = answers(alloc, b"project 1", &commands)?;
+    let mut wanted =
+        b"ok valid 0 open 0 invalid 0\n.\nok valid 0 open 1 invalid 0\n.\nok valid 0 open 2 invalid 0\n.\n!saved\n.\n".to_vec(
+            alloc,
+        )?;
+    wanted.extend_from_slice(FORMS)?;
+    assert_eq!(rt; given.as_slice(), wanted.as_slice());
+    let again = answers(alloc, FORMS, &[])?;
+    assert_eq!(rt; again.as_slice(), FORMS);
+    Ok(())
+}

@@ -1,4 +1,4 @@
-use Rattle.std.proofs.Common.{rules, arith, ◌∙◌, ◌+◌, ◌-◌, ap, sym, length, map}
+use Rattle.std.proofs.Common.{rules, arith, ◌∙◌, ◌+◌, ◌-◌, ap, sym, refl, length, map}
 use Rattle.std.proofs.lemmas.Grind.{common_steps}
 use Rattle.kv_syn.specs.ProjectBridge.{plain_item}
 use Rattle.kv_pexpr.specs.Gives.{kinds}
@@ -10,18 +10,15 @@ use Rattle.kv_punit.proofs.units.items.Goals as goal
 pub returns-in_default-clause-reads : goal.returns-in_default-clause-reads
 returns-in_default-clause-reads c = rw (c.loop-turn.invariant.reads ∙ items_next (length c.args.tokens.now) c.loop-turn._turn (map plain_item c.loop-turn.items) (kinds c.loop-turn.rest.now) (omega arith)) (search rules)
 
-pub returns-in_err-name-clause-reads : goal.returns-in_err-name-clause-reads
-returns-in_err-name-clause-reads c = rw (c.loop-turn.invariant.reads ∙ items_next (length c.args.tokens.now) c.loop-turn._turn (map plain_item c.loop-turn.items) (kinds c.loop-turn.rest.now) (omega arith)) (search rules)
-
-pub returns-in_err-rest-clause-reads : goal.returns-in_err-rest-clause-reads
-returns-in_err-rest-clause-reads c = rw (c.loop-turn.invariant.reads ∙ items_next (length c.args.tokens.now) c.loop-turn._turn (map plain_item c.loop-turn.items) (kinds c.loop-turn.rest.now) (omega arith)) (search rules)
+pub returns-in_err-item-clause-reads : goal.returns-in_err-item-clause-reads
+returns-in_err-item-clause-reads c = rw (c.loop-turn.invariant.reads ∙ items_next (length c.args.tokens.now) c.loop-turn._turn (map plain_item c.loop-turn.items) (kinds c.loop-turn.rest.now) (omega arith)) (search rules)
 
 pub loop-turn-preserved : goal.loop-turn-preserved
 loop-turn-preserved c = record {
   reads = c.loop-turn.invariant.reads
-      ∙ items_turn (length c.args.tokens.now) c.loop-turn._turn (map plain_item c.loop-turn.items) (kinds c.loop-turn.rest.now) (kinds c.in-Some.after.now) (kinds c.in_ok-name.after.now) (kinds c.in_ok-rest.rest.now) c.in_ok-name.name
-      (omega arith) (sym c.in-Some.ensures) c.in_ok-name.ensures c.in_ok-rest.ensures
-      ∙ ap (λ l. spec.items (length c.args.tokens.now - (c.loop-turn._turn + 1)) l (kinds c.in_ok-rest.rest.now)) (sym (pushed plain_item c.loop-turn.items _ _ _ c.in_ok-push.ensures.ok (search rules)));
+      ∙ items_turn (length c.args.tokens.now) c.loop-turn._turn (map plain_item c.loop-turn.items) (kinds c.loop-turn.rest.now) c.in-Some.kind (kinds c.in-Some.after.now) (kinds c.in_ok-item.after.now) (plain_item c.in_ok-item.item)
+      (omega arith) (sym c.in-Some.ensures) c.in_ok-item.ensures.reads
+      ∙ ap (λ l. spec.items (length c.args.tokens.now - (c.loop-turn._turn + 1)) l (kinds c.in_ok-item.after.now)) (sym (pushed plain_item c.loop-turn.items _ _ _ c.in_ok-push.ensures.ok refl));
   readable = grind (arith, common_steps);
 }
 

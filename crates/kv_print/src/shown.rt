@@ -1,0 +1,230 @@
+// Typed terms, formulas and programs as raw ones, with `$k` for bound variables, and their texts.
+
+ghost use Rattle.std.specs.Prelude.{◌≡◌, ◌+◌, ◌<◌, ◌^◌, map, IfOk};
+ghost use Rattle.kv_syn.specs.Bridge.{plain_form, plain_prog, plain_term, plain_terms};
+ghost use Rattle.kv_syn.specs.RawBridge.{raw_form, raw_prog, raw_term, raw_terms};
+ghost use Rattle.kv_syn.specs.Variables.{form_binders, prog_binders};
+ghost use Rattle.kv_print.specs.Shown as spec;
+ghost use Rattle.kv_print.specs.Shown.{binder_name, shown_callee, shown_form, shown_prog, shown_ref, shown_term, shown_terms, shown_var};
+
+use crate::forms::{push_form, push_prog};
+use crate::pieces::push_number;
+use kv_syn::{
+    Boxed, Bytes, Callee, Form, List, Name, NoMemory, Plain, Prog, RawForm, RawProg, RawTerm, Ref,
+    Term, Var, boxed,
+};
+use std::alloc::Global;
+
+/// The text of a typed formula, laid out as those of a project are: the variable of a binder is `$k`, where k - 1 binders
+/// stand round it, blocks of programs among them; an assumed procedure is written by its name. `NoMemory` too where the
+/// formula is 2^32 - 1 deep.
+pub fn form_text(alloc: Global, form: &Form) -> Result<Bytes, NoMemory>
+    ensures { IfOk result (λ text. text ≡ spec.form_text (plain_form form.now)) }
+{
+    if form.depth() == u32::MAX {
+        return Err(NoMemory);
+    }
+    let raw = form_shown(alloc, form, 0)?;
+    let mut text = Bytes::new(alloc);
+    push_form(&mut text, &raw)?;
+    Ok(text)
+}
+
+/// The text of a typed program that stands inside so many binders, whose variables are `$1`, `$2` and so on from outside.
+/// `NoMemory` too where it is so deep that these and its own binders may pass 2^32.
+pub fn prog_text(alloc: Global, prog: &Prog, around: u32) -> Result<Bytes, NoMemory>
+    ensures { IfOk result (λ text. text ≡ spec.prog_text (plain_prog prog.now) around) }
+{
+    if prog.depth() >= u32::MAX - around {
+        return Err(NoMemory);
+    }
+    let raw = prog_shown(alloc, prog, around)?;
+    let mut text = Bytes::new(alloc);
+    push_prog(&mut text, &raw)?;
+    Ok(text)
+}
+
+/// The variable of the binder that is the k-th from outside.
+fn binder_name(alloc: Global, k: u32) -> Result<Name, NoMemory>
+    ensures { IfOk result (λ name. name ≡ binder_name k) }
+{
+    let mut text = Bytes::from_bytes(alloc, b"$")?;
+    push_number(alloc, &mut text, u64::from(k))?;
+    Name::from_bytes(alloc, text.bytes())
+}
+
+/// A variable inside so many binders.
+fn ref_shown(alloc: Global, place: &Ref, around: u32) -> Result<Name, NoMemory>
+    ensures { IfOk result (λ name. name ≡ shown_ref around place.now) }
+{
+    match place {
+        Ref::Free(var) => var.name.copy(alloc),
+        Ref::Bound(i) => binder_name(alloc, around.saturating_sub(*i)),
+    }
+}
+
+fn refs_shown(alloc: Global, refs: &[Ref], around: u32) -> Result<List<Name>, NoMemory>
+    ensures { IfOk result (λ names. names ≡ map (shown_ref around) refs.now) }
+{
+    let mut names = List::new(alloc);
+    for place in refs {
+        names.push(ref_shown(alloc, place, around)?)?;
+    }
+    Ok(names)
+}
+
+/// The variable of a further binder.
+fn var_shown(alloc: Global, sort: &Name, around: u32) -> Result<Var, NoMemory>
+    requires { around + 1 < 2 ^ 32 }
+    ensures { IfOk result (λ var. var ≡ shown_var around sort.now) }
+{
+    let sort = sort.copy(alloc)?;
+    Ok(Var {
+        name: binder_name(alloc, around + 1)?,
+        sort,
+    })
+}
+
+/// What a call calls.
+fn callee_shown(alloc: Global, callee: &Callee) -> Result<Name, NoMemory>
+    ensures { IfOk result (λ name. name ≡ shown_callee callee.now) }
+{
+    match callee {
+        Callee::Symbol(name) => name.copy(alloc),
+        Callee::Assumed(name, _) => name.copy(alloc),
+    }
+}
+
+#[cycle(term_shown)]
+fn term_shown(alloc: Global, term: &Term, around: u32) -> Result<RawTerm, NoMemory>
+    ensures { IfOk result (λ t. raw_term t ≡ shown_term around (plain_term term.now)) }
+{
+    match term {
+        Term::Place(place) => Ok(RawTerm::App(ref_shown(alloc, place, around)?, List::new(alloc))),
+        Term::App(f, ts) => Ok(RawTerm::App(
+            f.copy(alloc)?,
+            terms_shown(alloc, ts.items(), around)?,
+        )),
+    }
+}
+
+#[cycle(term_shown)]
+fn terms_shown(alloc: Global, terms: &[Term], around: u32) -> Result<List<RawTerm>, NoMemory>
+    ensures { IfOk result (λ ts. raw_terms ts ≡ shown_terms around (plain_terms terms.now)) }
+{
+    let mut shown = List::new(alloc);
+    for term in terms {
+        shown.push(term_shown(alloc, term, around)?)?;
+    }
+    Ok(shown)
+}
+
+#[cycle(form_shown)]
+fn form_shown(alloc: Global, form: &Form, around: u32) -> Result<RawForm, NoMemory>
+    requires { form_binders (plain_form form.now) + around < 2 ^ 32 }
+    ensures { IfOk result (λ f. raw_form f ≡ shown_form around (plain_form form.now)) }
+{
+    match form {
+        Form::True => Ok(RawForm::True),
+        Form::False => Ok(RawForm::False),
+        Form::Atom(p, ts) => Ok(RawForm::Atom(
+            p.copy(alloc)?,
+            terms_shown(alloc, ts.items(), around)?,
+        )),
+        Form::Equal(s, t) => Ok(RawForm::Equal(
+            term_shown(alloc, s, around)?,
+            term_shown(alloc, t, around)?,
+        )),
+        Form::Not(f) => Ok(RawForm::Not(boxed_form(alloc, f, around)?)),
+        Form::And(f, g) => Ok(RawForm::And(
+            boxed_form(alloc, f, around)?,
+            boxed_form(alloc, g, around)?,
+        )),
+        Form::Or(f, g) => Ok(RawForm::Or(
+            boxed_form(alloc, f, around)?,
+            boxed_form(alloc, g, around)?,
+        )),
+        Form::Imp(f, g) => Ok(RawForm::Imp(
+            boxed_form(alloc, f, around)?,
+            boxed_form(alloc, g, around)?,
+        )),
+        Form::Iff(f, g) => Ok(RawForm::Iff(
+            boxed_form(alloc, f, around)?,
+            boxed_form(alloc, g, around)?,
+        )),
+        Form::All(s, f) => Ok(RawForm::All(
+            var_shown(alloc, s, around)?,
+            boxed_form(alloc, f, around + 1)?,
+        )),
+        Form::Ex(s, f) => Ok(RawForm::Ex(
+            var_shown(alloc, s, around)?,
+            boxed_form(alloc, f, around + 1)?,
+        )),
+        Form::After(a, f) => Ok(RawForm::After(
+            boxed_prog(alloc, a, around)?,
+            boxed_form(alloc, f, around)?,
+        )),
+        Form::Can(a, f) => Ok(RawForm::Can(
+            boxed_prog(alloc, a, around)?,
+            boxed_form(alloc, f, around)?,
+        )),
+    }
+}
+
+#[cycle(form_shown)]
+fn boxed_form(alloc: Global, form: &Boxed<Form>, around: u32) -> Result<Boxed<RawForm>, NoMemory>
+    requires { form_binders (plain_form form.now) + around < 2 ^ 32 }
+    ensures { IfOk result (λ f. raw_form f ≡ shown_form around (plain_form form.now)) }
+{
+    boxed(alloc, form_shown(alloc, form.get(), around)?)
+}
+
+#[cycle(form_shown)]
+fn prog_shown(alloc: Global, prog: &Prog, around: u32) -> Result<RawProg, NoMemory>
+    requires { prog_binders (plain_prog prog.now) + around < 2 ^ 32 }
+    ensures { IfOk result (λ a. raw_prog a ≡ shown_prog around (plain_prog prog.now)) }
+{
+    match prog {
+        Prog::Skip => Ok(RawProg::Skip),
+        Prog::Abort => Ok(RawProg::Abort),
+        Prog::Assign(x, t) => Ok(RawProg::Assign(
+            ref_shown(alloc, x, around)?,
+            term_shown(alloc, t, around)?,
+        )),
+        Prog::Seq(a, b) => Ok(RawProg::Seq(
+            boxed_prog(alloc, a, around)?,
+            boxed_prog(alloc, b, around)?,
+        )),
+        Prog::If(e, a, b) => Ok(RawProg::If(
+            boxed_form(alloc, e, around)?,
+            boxed_prog(alloc, a, around)?,
+            boxed_prog(alloc, b, around)?,
+        )),
+        Prog::While(e, a) => Ok(RawProg::While(
+            boxed_form(alloc, e, around)?,
+            boxed_prog(alloc, a, around)?,
+        )),
+        Prog::Local(s, t, a) => Ok(RawProg::Local(
+            var_shown(alloc, s, around)?,
+            term_shown(alloc, t, around)?,
+            boxed_prog(alloc, a, around + 1)?,
+        )),
+        Prog::Call(p, ts, rs) => Ok(RawProg::Call(
+            callee_shown(alloc, p)?,
+            terms_shown(alloc, ts.items(), around)?,
+            refs_shown(alloc, rs.items(), around)?,
+        )),
+        Prog::Choice(a, b) => Ok(RawProg::Choice(
+            boxed_prog(alloc, a, around)?,
+            boxed_prog(alloc, b, around)?,
+        )),
+    }
+}
+
+#[cycle(form_shown)]
+fn boxed_prog(alloc: Global, prog: &Boxed<Prog>, around: u32) -> Result<Boxed<RawProg>, NoMemory>
+    requires { prog_binders (plain_prog prog.now) + around < 2 ^ 32 }
+    ensures { IfOk result (λ a. raw_prog a ≡ shown_prog around (plain_prog prog.now)) }
+{
+    boxed(alloc, prog_shown(alloc, prog.get(), around)?)
+}
