@@ -19,3 +19,6 @@ pub use laws::{
 };
 pub use opening::{close_var, open, open_prog, open_var};
 pub use renaming::rename;
+
+#[cfg(test)]
+mod tests;
