@@ -202,7 +202,7 @@ fn refused_texts(rt: HostRuntime) -> Result<(), Fail> {
         b"project",
         b"project 2\n",
         b"project 1\nunit A basic pred a; end theorem t : a & a;",
-        b"project 1\nunit A basic pred a; end theorem t : a or a;",
+        b"project 1\nunit A basic pred a; end theorem t : a <-> a <-> a;",
         b"project 1\nunit A basic pred a; end theorem t : a; proof t = impR 1; close 1 1",
         b"project 1\nunit A basic pred a; end theorem t : a; proof t = orL 1 qed",
         b"project 1\nunit A basic pred a; end theorem t : a; proof A:t = open qed",
