@@ -75,11 +75,11 @@ in_without xs i x m = elim (in_either (take (i - 1) xs) (drop i xs) m) [ inl a �
 
 -- ---- every item of a list without an item, or with others in its place
 
-every_append : {A : Type 0} (P : A → Type 0) (xs ys : List A) → Every P xs → Every P ys → Every P (xs ++ ys)
+pub every_append : {A : Type 0} (P : A → Type 0) (xs ys : List A) → Every P xs → Every P ys → Every P (xs ++ ys)
 every_append P [] ys e f = f
 every_append P (x ∷ xs) ys e f = (e.0, every_append P xs ys e.1 f)
 
-every_sub : {A : Type 0} (P : A → Type 0) (xs ys : List A) → Sub xs ys → Every P ys → Every P xs
+pub every_sub : {A : Type 0} (P : A → Type 0) (xs ys : List A) → Sub xs ys → Every P ys → Every P xs
 every_sub P xs ys s e = every_of P xs (λ x i. every_in P ys e x (s x i))
 
 pub every_without : {A : Type 0} (P : A → Type 0) (xs : List A) (i : ℕ) → Every P xs → Every P (without_item xs i)

@@ -1,3 +1,4 @@
 pub mod Calculus
 pub mod Laws
 pub mod Theories
+pub mod Derivs

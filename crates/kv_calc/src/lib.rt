@@ -3,6 +3,10 @@
 
 ghost use Rattle.kv_calc.specs.Laws.{Cutting, Dropping};
 
+mod derivs;
+
+pub use derivs::Deriv;
+
 /// A derivable sequent stays derivable with more formulas.
 pub fn dropping()
     ensures { Dropping }

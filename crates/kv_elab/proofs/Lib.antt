@@ -6,3 +6,4 @@ pub mod References
 pub mod Cases
 pub mod Typings
 pub mod Within
+pub mod ByNames

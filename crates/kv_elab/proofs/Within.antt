@@ -48,7 +48,7 @@ out : (c : Context) (x : Var) {xs : List Var} {ps : List (Name × Profile)} → 
 out c x h = record { free = h.free; assumed = h.assumed }
 
 mutual
-  term_within : (sig : List Symbol) (c : Context) (raw : RawTerm) (t : Term × Name) → Answers (elab_term sig c raw) t → HasFree c (free_term t.0)
+  pub term_within : (sig : List Symbol) (c : Context) (raw : RawTerm) (t : Term × Name) → Answers (elab_term sig c raw) t → HasFree c (free_term t.0)
   term_within sig c (RawTerm.App f ts) t e =
       from_name (λ (p : Term × Name). HasFree c (free_term p.0)) f (place_of c f) (profile_of sig f) (terms_count ts) (λ wants. elab_args sig c wants ts) t e
       (λ p is. place_within c f p.0 p.1 (place_names c f p is))

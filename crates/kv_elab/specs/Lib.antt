@@ -2,3 +2,4 @@ pub mod Typed
 pub mod Scopes
 pub mod Elab
 pub mod Lawful
+pub mod Names

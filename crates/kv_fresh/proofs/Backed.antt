@@ -3,20 +3,22 @@ use Rattle.std.proofs.Common.{◌≡◌, ℕ, zero, suc, ◌-◌, ◌^◌, ◌==
 use Rattle.std.specs.Prelude.{filter}
 use Rattle.std.proofs.lemmas.Bool.{cases_Bool, cond-true, cond-false, ne_eqb}
 use Rattle.std.proofs.Math.Logic.{⊎_elim}
-use Rattle.kv_calc.specs.Calculus.{Good, alone}
+use Rattle.kv_calc.specs.Calculus.{Good, Theory, alone}
 use Rattle.kv_calc.proofs.Members.{in_either}
 use Rattle.kv_elab.specs.Elab.{elab_form}
 use Rattle.kv_elab.specs.Typed.{Typed}
 use Rattle.kv_elab.proofs.Typings.{form_typed}
 use Rattle.kv_elab.proofs.Within.{form_closed}
 use Rattle.kv_script.proofs.Closing.{closing}
+use Rattle.kv_script.proofs.Lemmas.{IsGiven}
 use Rattle.kv_flat.specs.Units.{signature_of}
 use Rattle.kv_fresh.specs.Backing.{AreProvedTheorems, AreTheoremsBacked, IsBacked, IsOfTheorem, Backing, theory_over}
 use Rattle.kv_script.specs.Reasons.{reason_with}
-use Rattle.kv_fresh.specs.States.{goal_of, idle_row, idle_rows, ill_row, is_idle, is_small, nothing_around, row_of, row_where, rows_of, rows_where, script_of, shown, small_goal, theorem_rows}
-use Rattle.kv_script.specs.Events.{first_fault, goal_count, is_closed, replay_events}
+use Rattle.kv_fresh.specs.States.{goal_of, idle_row, idle_rows, ill_row, is_idle, is_small, nothing_around, row_of, row_where, rows_of, rows_where, script_of, shown, small_goal, theorem_rows, view_over}
+use Rattle.kv_script.specs.Events.{first_fault, goal_count, is_closed, replay_events, used_labels}
+use Rattle.kv_sig.specs.Views.{View}
 use Rattle.kv_sig.specs.FreeNames.{free_form, assumed_form}
-use Rattle.kv_sig.specs.Members.{In, here, there}
+use Rattle.kv_sig.specs.Members.{Every, In, here, there}
 use Rattle.kv_syn.specs.Projects as P
 use Rattle.kv_syn.specs.Scripts.{Script}
 use Rattle.kv_syn.specs.Trees.{Form, Name}
@@ -36,10 +38,10 @@ closed_when None (suc n) h =
     let left : Open (min (suc n) (2 ^ 64 - 1)) ≡ Proved = sym (cond-false (min (suc n) (2 ^ 64 - 1) == 0) Proved (Open (min (suc n) (2 ^ 64 - 1))) e) ∙ h in
     cc
 
-closed_row : (unit name : Name) (script : Script) (goal : Result Form Reason) → (row_where unit name script goal).state ≡ Proved
-    → (f : Form) × (goal ≡ Ok f) × (is_closed (replay_events f script) ≡ true)
-closed_row unit name script (Err fault) h = let e : Ill fault ≡ Proved = h in cc
-closed_row unit name script (Ok f) h = (f, refl, closed_when (first_fault (replay_events f script)) (goal_count (replay_events f script)) h)
+closed_row : (view : View) (unit name : Name) (script : Script) (goal : Result Form Reason) → (row_where view unit name script goal).state ≡ Proved
+    → (f : Form) × (goal ≡ Ok f) × (is_closed (replay_events view f script) ≡ true)
+closed_row view unit name script (Err fault) h = let e : Ill fault ≡ Proved = h in cc
+closed_row view unit name script (Ok f) h = (f, refl, closed_when (first_fault (replay_events view f script)) (goal_count (replay_events view f script)) h)
 
 -- a goal is a formula that typing gave
 typed_goal : (t : Typed Form) (f : Form) → small_goal t ≡ Ok f → t ≡ Ok f
@@ -70,11 +72,17 @@ good_goal signature theorem f e =
       rights = (form_typed signature nothing_around theorem.form f (record { free = tt; bound = tt; assumed = tt }) typed, tt);
     }
 
+-- where there is no entry, each used one is given
+none_missing : (view : View) (theory : Theory) (labels : List Name) → ((label : Name) → view.entry label ≡ None) → Every (IsGiven view theory) labels
+none_missing view theory [] none = tt
+none_missing view theory (label ∷ labels) none = ((λ f e. absurd (let no : Some f ≡ None = sym e ∙ none label in cc)), none_missing view theory labels none)
+
 theorems_backed : (project : P.Project) → AreTheoremsBacked project
 theorems_backed project unit in_project theorem in_unit signature is shown_proved =
     let script = script_of unit.proofs theorem.name in
-    let (f, goal, closed) = closed_row unit.name theorem.name script (goal_of signature theorem) shown_proved in
-    (f, goal, closing (theory_over signature) f script (good_goal signature theorem f goal) closed)
+    let (f, goal, closed) = closed_row (view_over signature) unit.name theorem.name script (goal_of signature theorem) shown_proved in
+    let view = view_over signature in
+    (f, goal, closing view (theory_over signature) refl f script (good_goal signature theorem f goal) closed (none_missing view (theory_over signature) (used_labels (replay_events view f script)) (λ label. refl)))
 
 -- ---- rows that are shown as proved
 

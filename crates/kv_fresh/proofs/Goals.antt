@@ -4,7 +4,8 @@ use Rattle.kv_elab.specs.Typed.{Typed, Gives}
 use Rattle.kv_elab.specs.declared.errors.TypeError.{TypeError}
 use Rattle.kv_elab.specs.declared.errors.TypeError.TheVariants.{Unknown, Arity, Sort, Duplicate, Program, NoMemory}
 use Rattle.kv_fresh.specs.Goals.{GoalIs}
-use Rattle.kv_fresh.specs.States.{small_goal, typing_reason}
+use Rattle.kv_fresh.specs.States.{small_goal}
+use Rattle.kv_script.specs.Reasons.{typing_reason}
 use Rattle.kv_syn.specs.Bridge.{plain_form}
 use Rattle.kv_syn.specs.Trees as P
 use Rattle.kv_syn.specs.declared.outcomes.Reason.{Reason}

@@ -4,6 +4,7 @@ use Rattle.kv_fresh.proofs.Turns.{first_named}
 use Rattle.kv_fresh.specs.Goals.{GoalIs}
 use Rattle.kv_fresh.specs.States.{replayed_row, row_where, script_of, script_or_open}
 use Rattle.kv_script.specs.Events.{outcome_of, replay_events}
+use Rattle.kv_sig.specs.Views.{View}
 use Rattle.kv_syn.specs.Bridge.{plain_form}
 use Rattle.kv_syn.specs.Projects as P
 use Rattle.kv_syn.specs.Trees.{Name, Form as FormTree}
@@ -11,11 +12,11 @@ use Rattle.kv_syn.specs.declared.outcomes.Outcome.{Outcome}
 use Rattle.kv_syn.specs.declared.outcomes.Reason.{Reason}
 use Rattle.kv_syn.specs.declared.trees.Form.{Form}
 
-pub row_told : (unit name : Name) (proofs : List P.Proof) (found : Option P.Proof) → found ≡ first_named proofs name
+pub row_told : (view : View) (unit name : Name) (proofs : List P.Proof) (found : Option P.Proof) → found ≡ first_named proofs name
     → (answer : Result Form Reason) (goal : Form) → answer ≡ Ok goal → (wanted : Result FormTree Reason) → GoalIs answer wanted
-    → (outcome : Outcome) → outcome ≡ outcome_of (replay_events (plain_form goal) (script_or_open found))
-    → replayed_row unit name outcome ≡ row_where unit name (script_of proofs name) wanted
-row_told unit name proofs found first answer goal is wanted told outcome replayed =
+    → (outcome : Outcome) → outcome ≡ outcome_of (replay_events view (plain_form goal) (script_or_open found))
+    → replayed_row unit name outcome ≡ row_where view unit name (script_of proofs name) wanted
+row_told view unit name proofs found first answer goal is wanted told outcome replayed =
     ap (replayed_row unit name) replayed
-    ∙ ap (λ (proof : Option P.Proof). replayed_row unit name (outcome_of (replay_events (plain_form goal) (script_or_open proof)))) first
-    ∙ ap (row_where unit name (script_of proofs name)) (sym (subst (λ (a : Result Form Reason). GoalIs a wanted) is told))
+    ∙ ap (λ (proof : Option P.Proof). replayed_row unit name (outcome_of (replay_events view (plain_form goal) (script_or_open proof)))) first
+    ∙ ap (row_where view unit name (script_of proofs name)) (sym (subst (λ (a : Result Form Reason). GoalIs a wanted) is told))

@@ -4,13 +4,13 @@ use Rattle.std.specs.Str.{bytes_eq}
 use Rattle.std.specs.List.{find, list_any}
 use Rattle.kv_elab.specs.Elab.{elab_form}
 use Rattle.kv_elab.specs.declared.contexts.Context.{Context}
-use Rattle.kv_elab.specs.declared.errors.TypeError.{TypeError}
-use Rattle.kv_elab.specs.declared.errors.TypeError.TheVariants.{Unknown, Arity, Sort, Duplicate, Program, NoMemory}
 use Rattle.kv_elab.specs.Typed.{Typed}
 use Rattle.kv_flat.specs.Units.{signature_of}
 use Rattle.kv_prop.specs.declared.limits.TheConstants.{SEQUENT_NODES, SEQUENT_DEPTH}
 use Rattle.kv_script.specs.Events.{outcome_of, replay_events}
-use Rattle.kv_script.specs.Reasons.{reason_with}
+use Rattle.kv_script.specs.Reasons.{reason_with, typing_reason}
+use Rattle.kv_sig.specs.Signatures.{profile_of}
+use Rattle.kv_sig.specs.Views.{View, formula_of}
 use Rattle.kv_syn.specs.Count.{form_nodes, form_depth}
 use Rattle.kv_syn.specs.Projects as P
 use Rattle.kv_syn.specs.Scripts.{Script}
@@ -26,15 +26,6 @@ use Rattle.kv_syn.specs.declared.outcomes.UnitState.{UnitState}
 use Rattle.kv_syn.specs.declared.outcomes.UnitState.TheVariants.{Good, Bad}
 use Rattle.kv_syn.specs.declared.symbols.Symbol.{Symbol}
 use Rattle.kv_table.specs.declared.reason.TheConstants as reason
-
--- a fault of typing as a reason
-abbrev pub typing_reason : TypeError → Reason
-typing_reason (Unknown name) = reason_with reason.UNKNOWN (name ∷ [])
-typing_reason (Arity name) = reason_with reason.ARITY (name ∷ [])
-typing_reason (Sort want got) = reason_with reason.SORT (want ∷ got ∷ [])
-typing_reason (Duplicate name) = reason_with reason.DUPLICATE (name ∷ [])
-typing_reason Program = reason_with reason.PROGRAM []
-typing_reason NoMemory = reason_with reason.LARGE []  -- no formula is typed as this
 
 -- axioms and theorems are typed without free variables
 abbrev pub nothing_around : Context
@@ -71,13 +62,17 @@ ill_row unit name reason = record { unit = unit; name = name; state = Ill reason
 abbrev pub replayed_row : Name → Name → Outcome → Row
 replayed_row unit name outcome = record { unit = unit; name = name; state = shown outcome.broken outcome.goals; outcome = Some outcome }
 
+-- what the proofs of a unit see: its symbols, and so far no entry
+abbrev pub view_over : List Symbol → View
+view_over signature = record { symbol = profile_of signature; entry = formula_of [] }
+
 -- the row of a theorem: ill, or what the replay of its script shows
-abbrev pub row_where : Name → Name → Script → Result Form Reason → Row
-row_where unit name script (Err reason) = ill_row unit name reason
-row_where unit name script (Ok goal) = replayed_row unit name (outcome_of (replay_events goal script))
+abbrev pub row_where : View → Name → Name → Script → Result Form Reason → Row
+row_where view unit name script (Err reason) = ill_row unit name reason
+row_where view unit name script (Ok goal) = replayed_row unit name (outcome_of (replay_events view goal script))
 
 abbrev pub row_of : Name → List Symbol → List P.Proof → P.Theorem → Row
-row_of unit signature proofs theorem = row_where unit theorem.name (script_of proofs theorem.name) (goal_of signature theorem)
+row_of unit signature proofs theorem = row_where (view_over signature) unit theorem.name (script_of proofs theorem.name) (goal_of signature theorem)
 
 -- the rows of a unit's theorems, in order; those of a bad unit are ill
 abbrev pub theorem_rows : P.Unit → Result (List Symbol) Reason → List Row

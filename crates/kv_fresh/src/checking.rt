@@ -117,7 +117,8 @@ fn push_rows<L: Ledger>(
     rows: &mut List<Row>,
     steps: &mut Steps<L>,
 ) -> Result<(), NoMemory>
-    requires { list_all has_row_rows rows.old ≡ true }
+    requires rows { list_all has_row_rows rows.old ≡ true }
+    requires entries { flat.now.entries ≡ [] }
     ensures added { OnOk result (rows.new ≡ rows.old ++ theorem_rows (plain_unit unit.now) (Ok flat.now.sig)) }
     ensures rows { OnOk result (list_all has_row_rows rows.new ≡ true) }
 {

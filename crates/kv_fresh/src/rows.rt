@@ -1,9 +1,9 @@
 // The rows of theorems and of idle proofs.
 
-ghost use Rattle.std.specs.Prelude.{◌≡◌, true, map, Ok, IfOk, IfErr};
+ghost use Rattle.std.specs.Prelude.{◌≡◌, [], true, map, Ok, IfOk, IfErr};
 ghost use Rattle.kv_fresh.specs.Goals.{GoalIs};
 ghost use Rattle.kv_fresh.specs.Indexes.{LeadsToFirst, told};
-ghost use Rattle.kv_fresh.specs.States.{goal_of, idle_row, ill_row, nothing_around, replayed_row, row_of, script_or_open, shown, small_goal};
+ghost use Rattle.kv_fresh.specs.States.{goal_of, idle_row, ill_row, nothing_around, replayed_row, row_of, script_or_open, shown, small_goal, view_over};
 ghost use Rattle.kv_script.specs.Events.{outcome_of, replay_events};
 ghost use Rattle.kv_syn.specs.Bridge.{plain_form};
 ghost use Rattle.kv_syn.specs.ProjectBridge.{plain_proof, plain_theorem};
@@ -11,10 +11,10 @@ ghost use Rattle.kv_syn.specs.Rows.{has_fault_rows, has_reason_row, has_row_rows
 ghost use Rattle.kv_syn.specs.ScriptBridge.{plain_script};
 
 use crate::indexes::proof_named;
-use crate::reasons::{bare, typing_reason};
+use crate::reasons::bare;
 use kv_elab::{Context, elaborate};
 use kv_prop::{SEQUENT_DEPTH, SEQUENT_NODES};
-use kv_script::replay;
+use kv_script::{replay, typing_reason};
 use kv_sig::{Env, Flat};
 use kv_syn::{
     Form, Label, List, Name, NoMemory, Outcome, Plain, Proof, Reason, Row, Script, State, Steps,
@@ -35,7 +35,8 @@ pub fn row<L: Ledger>(
     theorem: &Theorem,
     steps: &mut Steps<L>,
 ) -> Result<Row, NoMemory>
-    requires { LeadsToFirst (map plain_proof unit.now.proofs) proofs.now }
+    requires index { LeadsToFirst (map plain_proof unit.now.proofs) proofs.now }
+    requires entries { flat.now.entries ≡ [] }
     ensures row { IfOk result (λ row. row ≡ row_of unit.now.name flat.now.sig (map plain_proof unit.now.proofs) (plain_theorem theorem.now)) }
     ensures rows { IfOk result (λ row. has_row_rows row ≡ true) }
 {
@@ -102,7 +103,7 @@ fn goal_of(alloc: Global, flat: &Flat, theorem: &Theorem) -> Result<Result<Form,
     let context = nothing_around(alloc);
     match elaborate(alloc, &flat.sig, &context, &theorem.form) {
         Ok(goal) => Ok(small_goal(alloc, goal)),
-        Err(error) => Ok(Err(typing_reason(alloc, &error)?)),
+        Err(error) => Ok(Err(typing_reason(alloc, error)?)),
     }
 }
 
@@ -138,7 +139,8 @@ fn replayed<L: Ledger>(
     name: &Name,
     steps: &mut Steps<L>,
 ) -> Result<Outcome, NoMemory>
-    ensures outcome { IfOk result (λ outcome. outcome ≡ outcome_of (replay_events (plain_form goal.now) (script_or_open (told proofs.now name.now)))) }
+    requires { flat.now.entries ≡ [] }
+    ensures outcome { IfOk result (λ outcome. outcome ≡ outcome_of (replay_events (view_over flat.now.sig) (plain_form goal.now) (script_or_open (told proofs.now name.now)))) }
     ensures rows { IfOk result (λ outcome. has_fault_rows outcome.broken ≡ true) }
 {
     let env = Env { flat, before: 0 };

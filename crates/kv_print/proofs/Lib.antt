@@ -1,4 +1,3 @@
 pub mod Spelling
 pub mod Heading
 pub mod Each
-pub mod Depths

@@ -1,148 +1,135 @@
-// The rules.
+// Which rule a step names.
 
-ghost use Rattle.std.specs.Prelude.{◌≡◌, ◌≤◌, map, IfOk};
-ghost use Rattle.kv_sig.specs.Places.{with_item};
-ghost use Rattle.kv_prop.specs.Premises.{premises, closing, split_left, split_right, applied, implied, and_then, form_at, sequent as sequent_of, fitting, fitting_both, Gives};
-ghost use Rattle.kv_syn.specs.Bridge.{plain_form, plain_sequent};
+ghost use Rattle.std.specs.Prelude.{map, None};
+ghost use Rattle.kv_sig.specs.Steps.{plain_typed_step, plain_typed_text};
+ghost use Rattle.kv_sig.specs.Views.{View, view_of};
+ghost use Rattle.kv_syn.specs.Bridge.{plain_form, plain_term, plain_sequent};
+ghost use Rattle.kv_prop.specs.Premises.{premises, premises_of, Gives};
+ghost use Rattle.kv_prop.specs.Rows.{Row, beside, number_rows, name_rows, term_rows, row_where, row_on};
 
-use crate::limits::fits;
-use crate::places::{are_same, at, copies_and, copies_with, copies_with_two, copies_without};
+use crate::{connectives, equality, lemmas, quantifiers};
 use kv_sig::{Env, StepError};
-use kv_syn::{Form, List, NoMemory, Plain, Sequent, TypedStep};
+use kv_syn::{List, Name, Sequent, Side, Term, TypedStep, TypedText};
 use kv_table::{by_row, rule};
 use std::alloc::Global;
 
 /// The premises of a step at a sequent, in their order: what is left to show so that the sequent is shown. A step
 /// that closes the sequent has none.
 ///
-/// Refusals, the first one that applies: `Position` where a number is 0 or past its side, `Shape` where a formula
-/// isn't of the rule's form, `Large` where a premise passes a limit of a sequent.
+/// Refusals, the first one that applies: `Position` where a number is 0 or past its side, or a rewriting is on its own
+/// equation; `Shape` where a formula isn't of the rule's form, or a rewriting would change nothing; `Sort` where a term
+/// has another sort than the quantifier; `NoLabel` where no entry has the label; `NotFresh` where the new name isn't
+/// new; `Captured` where a variable of the term would be captured; `Large` where a premise passes a limit of a sequent.
+/// `NoMemory` comes also where more than 2,000,000,000 binders stand in one another.
 pub fn apply(
     alloc: Global,
-    _env: &Env,
+    env: &Env<'_>,
     sequent: &Sequent,
     step: &TypedStep,
 ) -> Result<List<Sequent>, StepError>
-    ensures { Gives (map plain_sequent) result (premises (plain_sequent sequent.now) step.now) }
+    ensures { Gives (map plain_sequent) result (premises (view_of env.now.flat.now) (plain_sequent sequent.now) (plain_typed_step step.now)) }
 {
-    by_row!(rule, step.rule, step.numbers.items(); {
-        CLOSE [left, right] => close(alloc, sequent, *left, *right),
-        AND_L [place] => split_left(alloc, sequent, *place),
-        AND_R [place] => split_right(alloc, sequent, *place),
-        IMP_L [place] => use_implication(alloc, sequent, *place),
-        IMP_R [place] => imply(alloc, sequent, *place),
+    match step.side {
+        None => apply_plain(
+            alloc,
+            env,
+            sequent,
+            step.rule,
+            step.numbers.items(),
+            &step.text,
+        ),
+        Some(side) => apply_on(
+            alloc,
+            sequent,
+            step.rule,
+            side,
+            step.numbers.items(),
+            &step.text,
+        ),
+    }
+}
+
+/// The rules without a side.
+fn apply_plain(
+    alloc: Global,
+    env: &Env<'_>,
+    sequent: &Sequent,
+    row: u32,
+    numbers: &[u32],
+    text: &TypedText,
+) -> Result<List<Sequent>, StepError>
+    ensures { Gives (map plain_sequent) result (premises_of (view_of env.now.flat.now) (plain_sequent sequent.now) (row_where row numbers.now (plain_typed_text text.now))) }
+{
+    match (text, numbers) {
+        (TypedText::Nothing, [place]) => at_one(alloc, env, sequent, row, *place),
+        (TypedText::Nothing, [left, right]) => by_row!(rule, row; {
+            CLOSE => connectives::close(alloc, sequent, *left, *right),
+        } else Err(StepError::Shape)),
+        (TypedText::Fresh(name), [place]) => by_row!(rule, row; {
+            ALL_R => quantifiers::all_right(alloc, env, sequent, *place, name),
+            EX_L => quantifiers::ex_left(alloc, env, sequent, *place, name),
+        } else Err(StepError::Shape)),
+        (TypedText::OfTerm(term), [place]) => by_row!(rule, row; {
+            ALL_L => quantifiers::all_left(alloc, env, sequent, *place, term),
+            EX_R => quantifiers::ex_right(alloc, env, sequent, *place, term),
+        } else Err(StepError::Shape)),
+        (TypedText::OfForm(form), []) => by_row!(rule, row; {
+            CUT => connectives::cut(alloc, sequent, form),
+        } else Err(StepError::Shape)),
+        (TypedText::OfLabel(label), []) => by_row!(rule, row; {
+            USE => lemmas::use_entry(alloc, env, sequent, label),
+        } else Err(StepError::Shape)),
+        _ => Err(StepError::Shape),
+    }
+}
+
+/// The rules with one number and nothing else.
+fn at_one(
+    alloc: Global,
+    env: &Env<'_>,
+    sequent: &Sequent,
+    row: u32,
+    place: u32,
+) -> Result<List<Sequent>, StepError>
+    ensures { Gives (map plain_sequent) result (premises_of (view_of env.now.flat.now) (plain_sequent sequent.now) (beside row number_rows (λ i. Row.other) place)) }
+{
+    by_row!(rule, row; {
+        FALSE_L => connectives::false_left(alloc, sequent, place),
+        TRUE_R => connectives::true_right(alloc, sequent, place),
+        NOT_L => connectives::not_left(alloc, sequent, place),
+        NOT_R => connectives::not_right(alloc, sequent, place),
+        AND_L => connectives::and_left(alloc, sequent, place),
+        OR_R => connectives::or_right(alloc, sequent, place),
+        AND_R => connectives::and_right(alloc, sequent, place),
+        OR_L => connectives::or_left(alloc, sequent, place),
+        IMP_L => connectives::imp_left(alloc, sequent, place),
+        IMP_R => connectives::imp_right(alloc, sequent, place),
+        IFF_L => connectives::iff_left(alloc, sequent, place),
+        IFF_R => connectives::iff_right(alloc, sequent, place),
+        DROP_L => connectives::drop_left(alloc, sequent, place),
+        DROP_R => connectives::drop_right(alloc, sequent, place),
+        REFL => equality::reflexive(alloc, sequent, place),
     } else Err(StepError::Shape))
 }
 
-/// `close i j`: a formula on the left equals one on the right.
-fn close(
+/// The rules with a side.
+fn apply_on(
     alloc: Global,
     sequent: &Sequent,
-    left: u32,
-    right: u32,
+    row: u32,
+    side: Side,
+    numbers: &[u32],
+    text: &TypedText,
 ) -> Result<List<Sequent>, StepError>
-    ensures { Gives (map plain_sequent) result (closing (plain_sequent sequent.now) left right) }
+    ensures { (v : View) → Gives (map plain_sequent) result (premises_of v (plain_sequent sequent.now) (row_on row side numbers.now (plain_typed_text text.now))) }
 {
-    let assumed = at(sequent.left.items(), left)?;
-    let wanted = at(sequent.right.items(), right)?;
-    if are_same(assumed, wanted) {
-        Ok(List::new(alloc))
-    } else {
-        Err(StepError::Shape)
+    match (text, numbers) {
+        (TypedText::Nothing, [place]) => by_row!(rule, row; {
+            SWAP => equality::swap(alloc, sequent, side, *place),
+        } else Err(StepError::Shape)),
+        (TypedText::Nothing, [left, place]) => by_row!(rule, row; {
+            SUBST => equality::replace(alloc, sequent, *left, side, *place),
+        } else Err(StepError::Shape)),
+        _ => Err(StepError::Shape),
     }
-}
-
-/// `andL i`: of a conjunction on the left, both parts take its place.
-fn split_left(alloc: Global, sequent: &Sequent, place: u32) -> Result<List<Sequent>, StepError>
-    ensures { Gives (map plain_sequent) result (and_then (form_at (plain_sequent sequent.now).left place) (split_left (plain_sequent sequent.now) place)) }
-{
-    let Form::And(one, two) = at(sequent.left.items(), place)? else {
-        return Err(StepError::Shape);
-    };
-    let left = copies_with_two(alloc, sequent.left.items(), place, one.get(), two.get())?;
-    let right = sequent.right.copy(alloc)?;
-    one_premise(alloc, Sequent { left, right })
-}
-
-/// `andR i`: of a conjunction on the right, each part is to be shown in its place.
-fn split_right(alloc: Global, sequent: &Sequent, place: u32) -> Result<List<Sequent>, StepError>
-    ensures { Gives (map plain_sequent) result (and_then (form_at (plain_sequent sequent.now).right place) (split_right (plain_sequent sequent.now) place)) }
-{
-    let Form::And(one, two) = at(sequent.right.items(), place)? else {
-        return Err(StepError::Shape);
-    };
-    let first = with_right(alloc, sequent, place, one.get())?;
-    let second = with_right(alloc, sequent, place, two.get())?;
-    both_premises(alloc, first, second)
-}
-
-/// `impL i`: of an implication on the left, the premise is to be shown, and then the conclusion takes its place.
-fn use_implication(alloc: Global, sequent: &Sequent, place: u32) -> Result<List<Sequent>, StepError>
-    ensures { Gives (map plain_sequent) result (and_then (form_at (plain_sequent sequent.now).left place) (applied (plain_sequent sequent.now) place)) }
-{
-    let Form::Imp(premise, conclusion) = at(sequent.left.items(), place)? else {
-        return Err(StepError::Shape);
-    };
-    let first = Sequent {
-        left: copies_without(alloc, sequent.left.items(), place)?,
-        right: copies_and(alloc, &sequent.right, premise.get().copy(alloc)?)?,
-    };
-    let second = Sequent {
-        left: copies_with(alloc, sequent.left.items(), place, conclusion.get())?,
-        right: sequent.right.copy(alloc)?,
-    };
-    both_premises(alloc, first, second)
-}
-
-/// `impR i`: of an implication on the right, the premise is assumed and the conclusion takes its place.
-fn imply(alloc: Global, sequent: &Sequent, place: u32) -> Result<List<Sequent>, StepError>
-    ensures { Gives (map plain_sequent) result (and_then (form_at (plain_sequent sequent.now).right place) (implied (plain_sequent sequent.now) place)) }
-{
-    let Form::Imp(premise, conclusion) = at(sequent.right.items(), place)? else {
-        return Err(StepError::Shape);
-    };
-    let left = copies_and(alloc, &sequent.left, premise.get().copy(alloc)?)?;
-    let right = copies_with(alloc, sequent.right.items(), place, conclusion.get())?;
-    one_premise(alloc, Sequent { left, right })
-}
-
-/// The sequent with another formula at a place on the right.
-fn with_right(
-    alloc: Global,
-    sequent: &Sequent,
-    place: u32,
-    form: &Form,
-) -> Result<Sequent, NoMemory>
-    requires { 1 ≤ place }
-    ensures { IfOk result (λ s. plain_sequent s ≡ sequent_of (plain_sequent sequent.now).left (with_item (plain_sequent sequent.now).right place (plain_form form.now))) }
-{
-    Ok(Sequent {
-        left: sequent.left.copy(alloc)?,
-        right: copies_with(alloc, sequent.right.items(), place, form)?,
-    })
-}
-
-/// The sequent alone, where it keeps the limits.
-fn one_premise(alloc: Global, sequent: Sequent) -> Result<List<Sequent>, StepError>
-    ensures { Gives (map plain_sequent) result (fitting (plain_sequent sequent)) }
-{
-    if !fits(&sequent) {
-        return Err(StepError::Large);
-    }
-    let mut premises = List::new(alloc);
-    premises.push(sequent)?;
-    Ok(premises)
-}
-
-/// Both sequents, where both keep the limits.
-fn both_premises(alloc: Global, first: Sequent, second: Sequent) -> Result<List<Sequent>, StepError>
-    ensures { Gives (map plain_sequent) result (fitting_both (plain_sequent first) (plain_sequent second)) }
-{
-    if !(fits(&first) && fits(&second)) {
-        return Err(StepError::Large);
-    }
-    let mut premises = List::new(alloc);
-    premises.push(first)?;
-    premises.push(second)?;
-    Ok(premises)
 }

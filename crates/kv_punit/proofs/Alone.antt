@@ -16,13 +16,10 @@ use Rattle.kv_punit.specs.Grammar.{IsStatement, IsLabelled, IsScript, IsHead, pa
 use Rattle.kv_punit.specs.Parse as spec
 use Rattle.kv_punit.proofs.Exact.{Ends, exact_labelled, exact_script, exact_head}
 use Rattle.kv_punit.proofs.Sound.{sound_labelled, sound_script, sound_head}
-
--- nothing goes on behind the last token
-pub no_more : Stops []
-no_more us = (λ e. cc, λ e. cc, λ e. cc, λ e. cc, λ e. cc, λ e. cc)
+use Rattle.kv_punit.proofs.Stopping.{no_more}
 
 pub no_child : Ends []
-no_child = record { no_semicolon = refl; no_brace = refl }
+no_child = record { no_semicolon = refl; no_brace = refl; stops = no_more }
 
 pub ends : (us : List TokenKind) → spec.end us ≡ Some tt → us ≡ []
 ends [] e = refl

@@ -18,8 +18,9 @@ use Rattle.kv_punit.specs.Gives.{Finds}
 use Rattle.kv_punit.specs.Grammar as g
 use Rattle.kv_punit.specs.Grammar.{IsStatement, IsLabelled, IsHead, IsArguments, IsCommand, text_of}
 use Rattle.kv_punit.specs.Parse as spec
-use Rattle.kv_punit.proofs.Alone.{no_more, no_child, ends, goes_on}
+use Rattle.kv_punit.proofs.Alone.{no_child, ends, goes_on}
 use Rattle.kv_punit.proofs.One.{one_statement, one_labelled, one_head}
+use Rattle.kv_punit.proofs.Stopping.{no_more}
 
 -- ---- the arguments of each command
 

@@ -4,6 +4,7 @@ use Rattle.std.specs.Prelude.{Some, None, codes}
 use Rattle.kv_lex.specs.declared.mark.TheConstants.{OPEN_BRACE, CLOSE_BRACE, SEMICOLON, COLON, DOT, BAR}
 use Rattle.kv_lex.specs.declared.token.TokenKind.{TokenKind}
 use Rattle.kv_lex.specs.declared.token.TokenKind.TheVariants.{Word, Ident, Mark}
+use Rattle.kv_pexpr.specs.Grammar.{Stops}
 use Rattle.kv_pexpr.specs.Parse.{eat_mark, eat_word}
 use Rattle.kv_pexpr.proofs.Steps.{given_some}
 use Rattle.kv_syn.specs.Trees.{Name}
@@ -16,13 +17,9 @@ use Rattle.kv_punit.specs.Grammar as g
 use Rattle.kv_punit.specs.Grammar.{IsStep, IsScript, AreScripts, IsLabel, AreItems, IsLabelled, IsProof, IsHead}
 use Rattle.kv_punit.specs.Parse as spec
 use Rattle.kv_punit.proofs.ItemExact.{exact_item, item_takes, read_item}
-use Rattle.kv_punit.proofs.Steps.{two_not_one}
+use Rattle.kv_punit.proofs.StepReads.{step_takes, exact_step, no_open}
+use Rattle.kv_punit.proofs.Stopping.{semicolon_stops, open_brace_stops, close_brace_stops, bar_stops, qed_stops}
 use Rattle.kv_punit.proofs.Turns.{script_hole}
-
--- a reading takes a token at least
-pub step_takes : {ts us : List TokenKind} {s : Step} → IsStep ts s us → length us < length ts
-step_takes (g.one named takes) = omega arith
-step_takes (g.two named takes) = omega arith
 
 mutual
   pub script_takes : {n : ℕ} {ts us : List TokenKind} {s : Script} → IsScript n ts s us → length us < length ts
@@ -35,18 +32,11 @@ mutual
   scripts_take (g.last r) = omega (arith, script_takes r)
   scripts_take (g.more r s) = omega (arith, script_takes r, scripts_take s)
 
-pub exact_step : {ts us : List TokenKind} {s : Step} → IsStep ts s us → spec.step ts ≡ Some (s, us)
-exact_step (g.one named takes) = rw (named, takes)
-exact_step (g.two {row = row} named takes) = rw (named, two_not_one row takes, takes)
-
-no_open : {ts us : List TokenKind} {s : Step} → IsStep ts s us → eat_word word.OPEN ts ≡ None
-no_open (g.one named takes) = refl
-no_open (g.two named takes) = refl
-
 -- nothing goes on a script there
 pub record Ends (us : List TokenKind) : Type 0 where
   pub no_semicolon : eat_mark SEMICOLON us ≡ None
   pub no_brace : eat_mark OPEN_BRACE us ≡ None
+  pub stops : Stops us
 
 -- the children that are left are read, wherever there are turns enough
 abbrev pub Block : ℕ → List TokenKind → Scripts → List TokenKind → Type 0
@@ -85,19 +75,19 @@ node_block n ts us vs s list e none rest = rw (none, e, rest)
 mutual
   pub exact_script : {n : ℕ} {ts us : List TokenKind} {s : Script} → IsScript n ts s us → Ends us → spec.script n ts ≡ Some (s, us)
   exact_script (g.hole {n = n} {us = us}) stop = script_hole n (Word word.OPEN ∷ us) us refl
-  exact_script (g.leaf {n = n} {ts = ts} {us = us} {s = s} r) stop = node_leaf n ts us s (exact_step r) (no_open r) stop
+  exact_script (g.leaf {n = n} {ts = ts} {us = us} {s = s} r) stop = node_leaf n ts us s (exact_step r stop.stops) (no_open r) stop
   exact_script (g.chain {n = n} {ts = ts} {us = us} {vs = vs} {s = s} {k = k} r c) stop =
-      node_chain n ts us vs s k (exact_step r) (no_open r) (exact_script c stop)
+      node_chain n ts us vs s k (exact_step r (semicolon_stops us)) (no_open r) (exact_script c stop)
   exact_script (g.block {n = n} {ts = ts} {us = us} {vs = vs} {s = s} r cs) stop =
       let b = exact_scripts cs in
-      node_block n ts us vs s b.0 (exact_step r) (no_open r) (b.2 (length us) [] (omega arith)) ∙ ap (λ ks. Some (Script.Node s ks, vs)) b.1
+      node_block n ts us vs s b.0 (exact_step r (open_brace_stops us)) (no_open r) (b.2 (length us) [] (omega arith)) ∙ ap (λ ks. Some (Script.Node s ks, vs)) b.1
 
   pub exact_scripts : {n : ℕ} {ts us : List TokenKind} {ks : Scripts} → AreScripts n ts ks us → Block n ts ks us
   exact_scripts (g.last {n = n} {ts = ts} {us = us} {k = s} r) =
-      (s ∷ [], refl, block_last n ts us s (exact_script r (record { no_semicolon = refl; no_brace = refl })) (omega (arith, script_takes r)))
+      (s ∷ [], refl, block_last n ts us s (exact_script r (record { no_semicolon = refl; no_brace = refl; stops = close_brace_stops us })) (omega (arith, script_takes r)))
   exact_scripts (g.more {n = n} {ts = ts} {us = us} {vs = vs} {k = s} r rs) =
       let b = exact_scripts rs in
-      (s ∷ b.0, ap (Scripts.more s) b.1, block_more n ts us vs s b.0 (exact_script r (record { no_semicolon = refl; no_brace = refl })) (omega (arith, script_takes r)) b.2)
+      (s ∷ b.0, ap (Scripts.more s) b.1, block_more n ts us vs s b.0 (exact_script r (record { no_semicolon = refl; no_brace = refl; stops = bar_stops us })) (omega (arith, script_takes r)) b.2)
 
 -- the names of a label that are left are read, wherever there are turns enough
 pub record Parts (ts : List TokenKind) (l : Name) (us : List TokenKind) : Type 0 where
@@ -154,7 +144,7 @@ pub exact_labelled : {ts us : List TokenKind} {p : Proof} → IsLabelled ts p us
 exact_labelled (g.labelled l plain s) stop = rw (exact_label l refl, plain, exact_script s stop)
 
 pub exact_proof : {ts us : List TokenKind} {p : Proof} → IsProof ts p us → spec.proof ts ≡ Some (p, us)
-exact_proof (g.proof r) = rw (exact_labelled r (record { no_semicolon = refl; no_brace = refl }))
+exact_proof (g.proof {us = us} r) = rw (exact_labelled r (record { no_semicolon = refl; no_brace = refl; stops = qed_stops us }))
 
 -- the items that are left are read, wherever there are turns enough
 items_none : (us : List TokenKind) → spec.eat_declares us ≡ None → (k : ℕ) (done : List Item) → length us ≤ k → spec.items k done us ≡ Some (done ++ [], us)

@@ -1,5 +1,8 @@
 pub mod Turns
-pub mod Steps
+pub mod Before
+pub mod Stopping
+pub mod Longest
+pub mod StepReads
 pub mod ItemSound
 pub mod ItemExact
 pub mod Sound

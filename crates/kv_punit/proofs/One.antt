@@ -1,9 +1,7 @@
 -- One text is one project.
 use Rattle.std.proofs.Common.{ℕ, ◌≡◌, List, [], ◌∷◌, refl, ap, ◌∙◌, sym, subst}
 use Rattle.std.specs.Prelude.{None}
-use Rattle.kv_lex.specs.declared.mark.TheConstants.{SEMICOLON}
 use Rattle.kv_lex.specs.declared.token.TokenKind.{TokenKind}
-use Rattle.kv_lex.specs.declared.token.TokenKind.TheVariants.{Mark}
 use Rattle.kv_pexpr.specs.Grammar.{Stops, ReadsForm}
 use Rattle.kv_pexpr.specs.Parse.{eat_word}
 use Rattle.kv_pexpr.proofs.One as forms
@@ -17,10 +15,8 @@ use Rattle.kv_punit.specs.ReadsAs.{OneSpelling}
 use Rattle.kv_punit.specs.Ends.{Ends}
 use Rattle.kv_punit.proofs.Exact as script
 use Rattle.kv_punit.proofs.Exact.{exact_labelled, exact_proof, exact_head}
+use Rattle.kv_punit.proofs.Stopping.{semicolon_stops}
 use Rattle.kv_punit.proofs.Wholes.{statement_parts}
-
-pub semicolon_stops : (us : List TokenKind) → Stops (Mark SEMICOLON ∷ us)
-semicolon_stops us vs = (λ e. cc, λ e. cc, λ e. cc, λ e. cc, λ e. cc, λ e. cc)
 
 pub one_statement : {ts us vs : List TokenKind} {t u : Theorem} → IsStatement ts t us → IsStatement ts u vs → Stops us → Stops vs → (t ≡ u) × (us ≡ vs)
 one_statement {ts} {us} {vs} {t} {u} r s stop stop' =

@@ -3,7 +3,7 @@ use Rattle.std.proofs.Common.{ℕ, zero, suc, ◌≡◌, refl, List, [], ◌∷�
 use Rattle.std.specs.Prelude.{Bool, true, false, Some, None, cond}
 use Rattle.kv_lex.specs.declared.mark.TheConstants.{OPEN_BRACE, CLOSE_BRACE, SEMICOLON, EQUAL, BAR}
 use Rattle.kv_lex.specs.declared.token.TokenKind.{TokenKind}
-use Rattle.kv_lex.specs.declared.token.TokenKind.TheVariants.{Word, Ident, Number, Mark}
+use Rattle.kv_lex.specs.declared.token.TokenKind.TheVariants.{Word, Ident, Mark}
 use Rattle.kv_pexpr.specs.Parse.{Read, given, or_stay, eat_mark, eat_word, eat_name}
 use Rattle.kv_pexpr.proofs.Steps.{some_is, given_some, stay_or, mark_some, word_some, name_some}
 use Rattle.kv_syn.specs.Trees.{Name}
@@ -11,39 +11,13 @@ use Rattle.kv_syn.specs.Scripts.{Step, Script, Scripts}
 use Rattle.kv_syn.specs.ScriptBridge.{scripts_of}
 use Rattle.kv_syn.specs.Projects.{Proof, Item, Kind}
 use Rattle.kv_syn.specs.Projects as P
-use Rattle.kv_table.specs.Names.{row_of}
-use Rattle.kv_table.specs.Tables.{rule_rows}
 use Rattle.kv_table.specs.declared.keyword.TheConstants as word
 use Rattle.kv_punit.specs.Grammar as g
-use Rattle.kv_punit.specs.Grammar.{IsStep, IsScript, AreScripts, IsLabel, AreItems, IsLabelled, IsProof, IsHead, takes_one, takes_two, path_steps, has_colon}
+use Rattle.kv_punit.specs.Grammar.{IsStep, IsScript, AreScripts, IsLabel, AreItems, IsLabelled, IsProof, IsHead, path_steps, has_colon}
 use Rattle.kv_punit.specs.Parse as spec
 use Rattle.kv_punit.proofs.ItemSound.{sound_declares, sound_item}
-use Rattle.kv_punit.proofs.Steps.{number_some, cond_some, separator_some}
-
-sound_numbers : (n : Name) (row : ℕ) (us : List TokenKind) (r : Step × List TokenKind) → row_of rule_rows n ≡ Some row → spec.numbers (row, us) ≡ Some r → IsStep (Ident n ∷ us) r.0 r.1
-sound_numbers n row us r named e =
-    elim (cond_some (takes_one row) (spec.one_number (row, us)) (cond (takes_two row) (spec.two_numbers (row, us)) None) e) [
-      | inl a ↦ (
-          let i = given_some (spec.eat_number us) (spec.one row) a.1 in
-          rw (number_some us i.0 i.1)
-          (subst (λ (x : Step × List TokenKind). IsStep (Ident n ∷ Number i.0.0 ∷ i.0.1) x.0 x.1) (some_is i.2) (g.one named a.0)))
-      | inr b ↦ elim (cond_some (takes_two row) (spec.two_numbers (row, us)) None b) [
-        | inl a ↦ (
-            let i = given_some (spec.eat_number us) (spec.second row) a.1 in
-            let j = given_some (spec.eat_number i.0.1) (spec.two row i.0.0) i.2 in
-            rw (number_some us i.0 i.1, number_some i.0.1 j.0 j.1)
-            (subst (λ (x : Step × List TokenKind). IsStep (Ident n ∷ Number i.0.0 ∷ Number j.0.0 ∷ j.0.1) x.0 x.1) (some_is j.2) (g.two named a.0)))
-        | inr a ↦ absurd (let f = a in cc)
-      ]
-    ]
-
-pub sound_step : (ts : List TokenKind) (r : Step × List TokenKind) → spec.step ts ≡ Some r → IsStep ts r.0 r.1
-sound_step ts r e =
-    let a = given_some (spec.eat_rule ts) spec.numbers e in
-    let b = given_some (eat_name ts) spec.ruled a.1 in
-    let c = given_some (row_of rule_rows b.0.0) (λ row. Some (row, b.0.1)) b.2 in
-    let f : spec.numbers (c.0, b.0.1) ≡ Some r = ap spec.numbers (some_is c.2) ∙ a.2 in
-    rw (name_some ts b.0 b.1) (sound_numbers b.0.0 c.0 b.0.1 r c.1 f)
+use Rattle.kv_punit.proofs.StepReads.{sound_step}
+use Rattle.kv_punit.proofs.Before.{separator_some}
 
 module _ (n : ℕ) (read : List TokenKind → Read Script) (each : (ts : List TokenKind) (r : Script × List TokenKind) → read ts ≡ Some r → IsScript n ts r.0 r.1) where
   sound_block : (k : ℕ) (done : List Script) (ts : List TokenKind) (r : List Script × List TokenKind) → spec.block read k done ts ≡ Some r

@@ -26,7 +26,7 @@ use Rattle.kv_punit.specs.ReadsAs.{IsOtherVersion, IsRefused, Settles, Reads, Re
 use Rattle.kv_punit.specs.declared.errors.TextError.{TextError}
 use Rattle.kv_punit.specs.declared.errors.TextError.TheVariants as error
 use Rattle.kv_punit.specs.declared.errors.Which.TheVariants.{Steps, Units, Theorems}
-use Rattle.kv_punit.proofs.Steps.{number_some}
+use Rattle.kv_punit.proofs.Before.{number_some}
 use Rattle.kv_punit.proofs.One.{one_spelling}
 use Rattle.kv_syn.specs.ProjectBridge.{plain_project}
 

@@ -17,7 +17,8 @@ use Rattle.kv_table.specs.declared.keyword.TheConstants as word
 use Rattle.kv_punit.specs.Gives.{IsThat}
 use Rattle.kv_punit.specs.Grammar.{IsStatement, IsTheorem}
 use Rattle.kv_punit.specs.Parse as spec
-use Rattle.kv_punit.proofs.One.{semicolon_stops, theorem_begins}
+use Rattle.kv_punit.proofs.One.{theorem_begins}
+use Rattle.kv_punit.proofs.Stopping.{semicolon_stops}
 use Rattle.kv_punit.proofs.Wholes.{statement_parts, theorem_parts, theorem_from}
 
 -- the statement behind the word

@@ -1,14 +1,15 @@
 -- The grammar of projects and commands so far. Each relation reads: the tokens ts begin with a spelling of the thing, and us are
 -- the tokens behind it.
-use Rattle.std.specs.Prelude.{ℕ, suc, ◌≡◌, ◌==◌, Bool, true, false, List, [], ◌∷◌, ◌++◌, Option, Some, None, slice_get}
+use Rattle.std.specs.Prelude.{ℕ, suc, ◌≡◌, ◌==◌, Bool, false, List, [], ◌∷◌, ◌++◌, Option, Some, None, slice_get}
 use Rattle.std.specs.List.{list_any}
 use Rattle.kv_lex.specs.declared.mark.TheConstants.{OPEN, CLOSE, OPEN_BRACE, CLOSE_BRACE, COMMA, SEMICOLON, COLON, DOT, EQUAL, ARROW, BAR}
 use Rattle.kv_lex.specs.declared.token.TokenKind.{TokenKind}
 use Rattle.kv_lex.specs.declared.token.TokenKind.TheVariants.{Word, Ident, Number, Mark}
-use Rattle.kv_pexpr.specs.Grammar.{ReadsForm}
+use Rattle.kv_pexpr.specs.Grammar.{ReadsForm, ReadsTerm}
 use Rattle.kv_syn.specs.Trees.{Name}
-use Rattle.kv_syn.specs.RawTrees.{RawForm}
-use Rattle.kv_syn.specs.Scripts.{Step, StepText, Script, Scripts}
+use Rattle.kv_syn.specs.RawTrees.{RawTerm, RawForm}
+use Rattle.kv_syn.specs.Scripts.{Step, Script, Scripts}
+use Rattle.kv_syn.specs.declared.scripts.Side.{Side}
 use Rattle.kv_syn.specs.Projects.{Theorem, Proof, Item, Kind, Project}
 use Rattle.kv_syn.specs.Projects as P
 use Rattle.kv_syn.specs.declared.symbols.Var.{Var}
@@ -17,25 +18,26 @@ use Rattle.kv_table.specs.Names.{row_of}
 use Rattle.kv_table.specs.Tables.{command_rows, keyword_rows, rule_rows}
 use Rattle.kv_table.specs.declared.command.TheConstants as asked
 use Rattle.kv_table.specs.declared.keyword.TheConstants as word
-use Rattle.kv_table.specs.declared.rule.TheConstants as rule
+use Rattle.kv_punit.specs.Steps.{takes, side_name, numbered, with_name, with_term, with_form, sided}
+use Rattle.kv_punit.specs.declared.steps.Takes.TheVariants as take
 
--- a step that has numbers alone
-abbrev pub numbered : ℕ → List ℕ → Step
-numbered row numbers = record { rule = row; side = None; numbers = numbers; text = StepText.Nothing }
-
--- the rules with one number behind their word, and those with two
-abbrev pub takes_one : ℕ → Bool
-takes_one row = list_any (λ r. row == r) (rule.AND_L ∷ rule.AND_R ∷ rule.IMP_L ∷ rule.IMP_R ∷ [])
-
-abbrev pub takes_two : ℕ → Bool
-takes_two row = list_any (λ r. row == r) (rule.CLOSE ∷ [])
-
--- step = name number | name number number, where the name is the word of a rule that takes so many
+-- step = rule number | rule number number | rule number "as" name | rule number "with" term | rule form
+--      | rule side number | rule number side number, where the rule is a name in the table of rules that takes that
 pub data IsStep : List TokenKind → Step → List TokenKind → Type 0 where
   one : {n : Name} {row i : ℕ} {us : List TokenKind}
-      → row_of rule_rows n ≡ Some row → takes_one row ≡ true → IsStep (Ident n ∷ Number i ∷ us) (numbered row (i ∷ [])) us
+      → row_of rule_rows n ≡ Some row → takes row ≡ Some take.One → IsStep (Ident n ∷ Number i ∷ us) (numbered row (i ∷ [])) us
   two : {n : Name} {row i j : ℕ} {us : List TokenKind}
-      → row_of rule_rows n ≡ Some row → takes_two row ≡ true → IsStep (Ident n ∷ Number i ∷ Number j ∷ us) (numbered row (i ∷ j ∷ [])) us
+      → row_of rule_rows n ≡ Some row → takes row ≡ Some take.Two → IsStep (Ident n ∷ Number i ∷ Number j ∷ us) (numbered row (i ∷ j ∷ [])) us
+  name : {n x : Name} {row i : ℕ} {us : List TokenKind}
+      → row_of rule_rows n ≡ Some row → takes row ≡ Some take.Name → IsStep (Ident n ∷ Number i ∷ Word word.AS ∷ Ident x ∷ us) (with_name row i x) us
+  term : {n : Name} {row i : ℕ} {t : RawTerm} {ts us : List TokenKind}
+      → row_of rule_rows n ≡ Some row → takes row ≡ Some take.Term → ReadsTerm ts t us → IsStep (Ident n ∷ Number i ∷ Word word.WITH ∷ ts) (with_term row i t) us
+  form : {n : Name} {row : ℕ} {f : RawForm} {ts us : List TokenKind}
+      → row_of rule_rows n ≡ Some row → takes row ≡ Some take.Form → ReadsForm ts f us → IsStep (Ident n ∷ ts) (with_form row f) us
+  side : {n : Name} {row i : ℕ} {s : Side} {us : List TokenKind}
+      → row_of rule_rows n ≡ Some row → takes row ≡ Some take.Side → IsStep (Ident n ∷ Ident (side_name s) ∷ Number i ∷ us) (sided row s (i ∷ [])) us
+  two_sided : {n : Name} {row i j : ℕ} {s : Side} {us : List TokenKind}
+      → row_of rule_rows n ≡ Some row → takes row ≡ Some take.TwoSided → IsStep (Ident n ∷ Number i ∷ Ident (side_name s) ∷ Number j ∷ us) (sided row s (i ∷ j ∷ [])) us
 
 -- script = "open" | step [ ";" script | "{" script { "|" script } "}" ], with at most n steps on a path
 mutual

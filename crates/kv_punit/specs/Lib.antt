@@ -1,3 +1,4 @@
+pub mod Steps
 pub mod Grammar
 pub mod Limits
 pub mod Parse

@@ -1,11 +1,17 @@
 -- What the readers compute, as functions of the kinds of the tokens. That it is the grammar's is proved.
+use Rattle.std.specs.Str.{bytes_eq}
 use Rattle.std.specs.Prelude.{ℕ, zero, suc, Bool, true, false, if◌then◌else◌, ◌==◌, List, [], ◌∷◌, ◌++◌, length, Option, Some, None, codes}
 use Rattle.kv_lex.specs.declared.mark.TheConstants.{OPEN, CLOSE, OPEN_BRACE, CLOSE_BRACE, COMMA, SEMICOLON, COLON, DOT, EQUAL, ARROW, BAR}
 use Rattle.kv_lex.specs.declared.token.TokenKind.{TokenKind}
 use Rattle.kv_lex.specs.declared.token.TokenKind.TheVariants.{Word, Ident, Number, Mark}
-use Rattle.kv_pexpr.specs.Parse.{Read, given, or_stay, eat_mark, eat_word, eat_name}
+use Rattle.kv_pexpr.specs.Grammar.{tree_height, open_brackets}
+use Rattle.kv_pexpr.specs.Parse.{Read, given, or_stay, eat_mark, eat_word, eat_name, term, read}
+use Rattle.kv_pexpr.specs.declared.levels.Level.TheVariants as level
 use Rattle.kv_syn.specs.Trees.{Name}
+use Rattle.kv_syn.specs.RawTrees.{RawTerm, RawForm}
 use Rattle.kv_syn.specs.Scripts.{Step, Script}
+use Rattle.kv_syn.specs.declared.scripts.Side.{Side}
+use Rattle.kv_syn.specs.declared.scripts.Side.TheVariants.{L, R}
 use Rattle.kv_syn.specs.ScriptBridge.{scripts_of}
 use Rattle.kv_syn.specs.Projects.{Proof, Item, Kind}
 use Rattle.kv_syn.specs.Projects as P
@@ -15,7 +21,10 @@ use Rattle.kv_table.specs.Tables.{command_rows, rule_rows}
 use Rattle.kv_table.specs.declared.keyword.TheConstants as word
 use Rattle.kv_punit.specs.declared.items.Declares.{Declares}
 use Rattle.kv_punit.specs.declared.items.Declares.TheVariants as declare
-use Rattle.kv_punit.specs.Grammar.{numbered, takes_one, takes_two, path_steps, has_colon, text_of}
+use Rattle.kv_punit.specs.declared.steps.Takes.{Takes}
+use Rattle.kv_punit.specs.declared.steps.Takes.TheVariants as take
+use Rattle.kv_punit.specs.Grammar.{path_steps, has_colon, text_of}
+use Rattle.kv_punit.specs.Steps.{takes, numbered, with_name, with_term, with_form, sided}
 
 abbrev pub eat_number : List TokenKind → Read ℕ
 eat_number [] = None
@@ -31,9 +40,25 @@ ruled r = given (row_of rule_rows r.0) (λ row. Some (row, r.1))
 abbrev pub eat_rule : List TokenKind → Read ℕ
 eat_rule ts = given (eat_name ts) ruled
 
--- the numbers of a step, by its rule
+-- the longest term and the longest formula that the tokens begin with
+unfoldable pub longest_term : List TokenKind → Read RawTerm
+longest_term = term tree_height open_brackets
+
+unfoldable pub longest_form : List TokenKind → Read RawForm
+longest_form = read 300 level.Form open_brackets tree_height
+
+abbrev pub side_named : Name → Option Side
+side_named n = if bytes_eq n (codes "L") then Some L else (if bytes_eq n (codes "R") then Some R else None)
+
+abbrev pub eat_side : List TokenKind → Read Side
+eat_side ts = given (eat_name ts) (λ n. given (side_named n.0) (λ side. Some (side, n.1)))
+
+-- what stands behind the word of a rule, whose row comes first; each by its parts
 abbrev pub one : ℕ → ℕ × List TokenKind → Read Step
 one row i = Some (numbered row (i.0 ∷ []), i.1)
+
+abbrev pub one_number : ℕ → List TokenKind → Read Step
+one_number row ts = given (eat_number ts) (one row)
 
 abbrev pub two : ℕ → ℕ → ℕ × List TokenKind → Read Step
 two row i j = Some (numbered row (i ∷ j.0 ∷ []), j.1)
@@ -41,17 +66,68 @@ two row i j = Some (numbered row (i ∷ j.0 ∷ []), j.1)
 abbrev pub second : ℕ → ℕ × List TokenKind → Read Step
 second row i = given (eat_number i.1) (two row i.0)
 
-abbrev pub one_number : ℕ × List TokenKind → Read Step
-one_number r = given (eat_number r.1) (one r.0)
+abbrev pub two_numbers : ℕ → List TokenKind → Read Step
+two_numbers row ts = given (eat_number ts) (second row)
 
-abbrev pub two_numbers : ℕ × List TokenKind → Read Step
-two_numbers r = given (eat_number r.1) (second r.0)
+abbrev pub fresh : ℕ → ℕ → Name × List TokenKind → Read Step
+fresh row i x = Some (with_name row i x.0, x.1)
 
-abbrev pub numbers : ℕ × List TokenKind → Read Step
-numbers r = if takes_one r.0 then one_number r else (if takes_two r.0 then two_numbers r else None)
+abbrev pub as_name : ℕ → ℕ × List TokenKind → Read Step
+as_name row i = given (eat_word word.AS i.1) (λ us. given (eat_name us) (fresh row i.0))
+
+abbrev pub number_and_name : ℕ → List TokenKind → Read Step
+number_and_name row ts = given (eat_number ts) (as_name row)
+
+abbrev pub termed : ℕ → ℕ → RawTerm × List TokenKind → Read Step
+termed row i t = Some (with_term row i t.0, t.1)
+
+abbrev pub as_term : ℕ → ℕ × List TokenKind → Read Step
+as_term row i = given (eat_word word.WITH i.1) (λ us. given (longest_term us) (termed row i.0))
+
+abbrev pub number_and_term : ℕ → List TokenKind → Read Step
+number_and_term row ts = given (eat_number ts) (as_term row)
+
+abbrev pub formed : ℕ → RawForm × List TokenKind → Read Step
+formed row f = Some (with_form row f.0, f.1)
+
+abbrev pub formula : ℕ → List TokenKind → Read Step
+formula row ts = given (longest_form ts) (formed row)
+
+abbrev pub placed : ℕ → Side → ℕ × List TokenKind → Read Step
+placed row side i = Some (sided row side (i.0 ∷ []), i.1)
+
+abbrev pub behind_side : ℕ → Side × List TokenKind → Read Step
+behind_side row s = given (eat_number s.1) (placed row s.0)
+
+abbrev pub side_and_number : ℕ → List TokenKind → Read Step
+side_and_number row ts = given (eat_side ts) (behind_side row)
+
+abbrev pub between : ℕ → ℕ → Side → ℕ × List TokenKind → Read Step
+between row i side j = Some (sided row side (i ∷ j.0 ∷ []), j.1)
+
+abbrev pub before_number : ℕ → ℕ → Side × List TokenKind → Read Step
+before_number row i s = given (eat_number s.1) (between row i s.0)
+
+abbrev pub before_side : ℕ → ℕ × List TokenKind → Read Step
+before_side row i = given (eat_side i.1) (before_number row i.0)
+
+abbrev pub side_between : ℕ → List TokenKind → Read Step
+side_between row ts = given (eat_number ts) (before_side row)
+
+abbrev pub behind_rule : ℕ → Takes → List TokenKind → Read Step
+behind_rule row take.One ts = one_number row ts
+behind_rule row take.Two ts = two_numbers row ts
+behind_rule row take.Name ts = number_and_name row ts
+behind_rule row take.Term ts = number_and_term row ts
+behind_rule row take.Form ts = formula row ts
+behind_rule row take.Side ts = side_and_number row ts
+behind_rule row take.TwoSided ts = side_between row ts
+
+abbrev pub taking : ℕ × List TokenKind → Read Step
+taking r = given (takes r.0) (λ what. behind_rule r.0 what r.1)
 
 abbrev pub step : List TokenKind → Read Step
-step ts = given (eat_rule ts) numbers
+step ts = given (eat_rule ts) taking
 
 -- behind a child: the closing brace, or a bar and more of them
 abbrev pub child : (List Script → List TokenKind → Read (List Script)) → List Script → Script × List TokenKind → Read (List Script)

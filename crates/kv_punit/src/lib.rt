@@ -10,7 +10,9 @@ mod names;
 mod projects;
 mod readers;
 mod scripts;
+mod steps;
 mod tokens;
+mod trees;
 mod units;
 mod words;
 

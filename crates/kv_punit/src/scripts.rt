@@ -1,22 +1,19 @@
 // Proof scripts. The rules take the reader of a script as a parameter, so that each is proved by itself.
 
-ghost use Rattle.std.specs.Prelude.{◌≡◌, ◌<◌, [], map, length, IfOk, IfSome};
+ghost use Rattle.std.specs.Prelude.{◌≡◌, map};
 ghost use Rattle.kv_syn.specs.ScriptBridge.{plain_script, plain_step};
-ghost use Rattle.kv_table.specs.Names.{row_of};
-ghost use Rattle.kv_table.specs.Tables.{rule_rows};
 ghost use Rattle.kv_pexpr.specs.Gives.{kinds, Gives};
 ghost use Rattle.kv_punit.specs.Gives.{seen, Finds};
-ghost use Rattle.kv_punit.specs.Grammar as grammar;
 ghost use Rattle.kv_punit.specs.Nests.{Nests};
 ghost use Rattle.kv_punit.specs.Parse as spec;
 ghost use Rattle.kv_punit.specs.Readings.{IsLoneScript};
 
-use crate::tokens::{end, mark, number};
-use crate::words::row_of;
-use kv_lex::{Token, TokenKind, mark as row};
+use crate::steps::step;
+use crate::tokens::{end, mark};
+use kv_lex::{Token, mark as row};
 use kv_pexpr::{ReadError, eat_mark, eat_word};
-use kv_syn::{List, Script, Step, StepText};
-use kv_table::{keyword, rule, rules};
+use kv_syn::{List, Script, Step};
+use kv_table::keyword;
 use std::alloc::Global;
 
 /// How many steps may stand on one path of a script.
@@ -126,95 +123,4 @@ fn script_of(alloc: Global, tokens: &[Token], most: u32) -> Result<(Script, &[To
         read: script_of,
     };
     children.node(step, rest)
-}
-
-/// A step: the word of a rule and its numbers.
-pub fn step(alloc: Global, tokens: &[Token]) -> Result<(Step, &[Token]), ReadError>
-    ensures { Gives (seen plain_step) result (spec.step (kinds tokens.now)) }
-{
-    let (row, rest) = rule_row(tokens)?;
-    if takes_one(row) {
-        one_number(alloc, row, rest)
-    } else if takes_two(row) {
-        two_numbers(alloc, row, rest)
-    } else {
-        Err(ReadError::Syntax)
-    }
-}
-
-/// Whether one number stands behind the word of the rule.
-fn takes_one(row: u32) -> bool
-    ensures { result ≡ grammar.takes_one row }
-{
-    matches!(row, rule::AND_L | rule::AND_R | rule::IMP_L | rule::IMP_R)
-}
-
-/// Whether two numbers stand behind the word of the rule.
-fn takes_two(row: u32) -> bool
-    ensures { result ≡ grammar.takes_two row }
-{
-    row == rule::CLOSE
-}
-
-/// The step of the rule with the number that comes first.
-fn one_number(alloc: Global, row: u32, tokens: &[Token]) -> Result<(Step, &[Token]), ReadError>
-    requires { row < 38 }
-    ensures { Gives (seen plain_step) result (spec.one_number (row, kinds tokens.now)) }
-{
-    let (place, rest) = number(tokens)?;
-    let mut numbers = List::new(alloc);
-    numbers.push(place)?;
-    Ok((numbered(row, numbers), rest))
-}
-
-/// The step of the rule with the two numbers that come first.
-fn two_numbers(alloc: Global, row: u32, tokens: &[Token]) -> Result<(Step, &[Token]), ReadError>
-    requires { row < 38 }
-    ensures { Gives (seen plain_step) result (spec.two_numbers (row, kinds tokens.now)) }
-{
-    let (left, rest) = number(tokens)?;
-    let (right, rest) = number(rest)?;
-    let mut numbers = List::new(alloc);
-    numbers.push(left)?;
-    numbers.push(right)?;
-    Ok((numbered(row, numbers), rest))
-}
-
-/// The step of a rule that has numbers alone.
-fn numbered(rule: u32, numbers: List<u32>) -> Step
-    requires { rule < 38 }
-    ensures { plain_step result ≡ grammar.numbered rule numbers }
-{
-    Step {
-        rule,
-        side: None,
-        numbers,
-        text: StepText::Nothing,
-    }
-}
-
-/// The row of the rule whose name comes first, and the tokens behind it.
-fn rule_row(tokens: &[Token]) -> Result<(u32, &[Token]), ReadError>
-    ensures reads { Gives (λ found. (found.0, kinds found.1.now)) result (spec.eat_rule (kinds tokens.now)) }
-    ensures within { IfOk result (λ found. found.0 < 38) }
-{
-    let Some((first, rest)) = tokens.split_first() else {
-        return Err(ReadError::Syntax);
-    };
-    let TokenKind::Ident(name) = &first.kind else {
-        return Err(ReadError::Syntax);
-    };
-    match rule_of(name.bytes()) {
-        Some(row) => Ok((row, rest)),
-        None => Err(ReadError::Syntax),
-    }
-}
-
-/// The row of the rule that the text is.
-#[tactic(auto, unfolding(kv_table::specs::Tables::rule_rows))]
-fn rule_of(text: &[u8]) -> Option<u32>
-    ensures value { result ≡ row_of rule_rows text.now }
-    ensures within { IfSome result (λ row. row < 38) }
-{
-    row_of(&rules(), text)
 }

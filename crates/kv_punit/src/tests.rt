@@ -127,7 +127,7 @@ fn theorems_and_proofs(rt: HostRuntime) -> Result<(), Fail> {
         ),
         ("theorem t : a; proof t = impL L qed", FAULT),
         ("theorem t : a; proof t = andl 1 qed", FAULT),
-        ("theorem t : a; proof t = orL 1 qed", FAULT),
+        ("theorem t : a; proof t = use t qed", FAULT),
     ];
     for (i, (text, want)) in cases.iter().enumerate() {
         let whole = repeated(rt.alloc(), text, "", 0, "")?;
@@ -462,5 +462,104 @@ fn steps_of_a_command(rt: HostRuntime) -> Result<(), Fail> {
             "steps {count}"
         );
     }
+    Ok(())
+}
+
+/// Whether each text is a script.
+fn are_scripts(alloc: Global, texts: &[&str]) -> bool {
+    texts
+        .iter()
+        .all(|text| script(alloc, text.as_bytes()).is_ok())
+}
+
+/// Whether no text is a script.
+fn are_no_scripts(alloc: Global, texts: &[&str]) -> bool {
+    texts
+        .iter()
+        .all(|text| script(alloc, text.as_bytes()).err() == FAULT)
+}
+
+#[test]
+fn steps_with_a_number(rt: HostRuntime) -> Result<(), Fail> {
+    let left = [
+        "falseL 1", "notL 2", "andL 3", "orL 4", "impL 5", "iffL 6", "dropL 7",
+    ];
+    assert!(rt; are_scripts(rt.alloc(), &left));
+    let right = [
+        "trueR 1", "notR 2", "andR 3", "orR 4", "impR 5", "iffR 6", "dropR 7", "refl 8",
+    ];
+    assert!(rt; are_scripts(rt.alloc(), &right));
+    Ok(())
+}
+
+#[test]
+fn steps_with_a_text(rt: HostRuntime) -> Result<(), Fail> {
+    let texts = [
+        "allR 1 as x",
+        "exL 2 as y; open",
+        "allL 1 with f(c, x)",
+        "exR 2 with c { open | open }",
+        "cut a -> b",
+        "cut (all x : s . p(x)) and c = d; close 1 1",
+    ];
+    assert!(rt; are_scripts(rt.alloc(), &texts));
+    Ok(())
+}
+
+#[test]
+fn steps_with_a_side(rt: HostRuntime) -> Result<(), Fail> {
+    let texts = [
+        "swap L 1",
+        "swap R 2",
+        "subst 1 R 2",
+        "subst 3 L 4; swap L 1",
+    ];
+    assert!(rt; are_scripts(rt.alloc(), &texts));
+    Ok(())
+}
+
+#[test]
+fn steps_without_what_they_take(rt: HostRuntime) -> Result<(), Fail> {
+    let names = [
+        "allR 1",
+        "exL as x",
+        "allR 1 with x",
+        "allR 1 as f(c)",
+        "exL 1 as as",
+    ];
+    assert!(rt; are_no_scripts(rt.alloc(), &names));
+    let terms = [
+        "allL 1",
+        "exR with c",
+        "allL 1 as c",
+        "exR 1 with f(",
+        "allL 1 with c = d",
+    ];
+    assert!(rt; are_no_scripts(rt.alloc(), &terms));
+    let forms = ["cut", "cut with a", "cut a ->", "cut 1", "cut a b"];
+    assert!(rt; are_no_scripts(rt.alloc(), &forms));
+    let sides = [
+        "swap 1",
+        "swap L",
+        "swap M 1",
+        "subst 1 2",
+        "subst R 1",
+        "subst 1 R",
+    ];
+    assert!(rt; are_no_scripts(rt.alloc(), &sides));
+    Ok(())
+}
+
+#[test]
+fn steps_that_no_text_has_yet(rt: HostRuntime) -> Result<(), Fail> {
+    let texts = [
+        "use A.a",
+        "induct 1",
+        "skip L 1",
+        "assign L 1 as y",
+        "inv 1 with a",
+        "simp 1",
+    ];
+    assert!(rt; are_no_scripts(rt.alloc(), &texts));
     Ok(())
 }

@@ -5,11 +5,9 @@ ghost use Rattle.std.specs.List.{list_all};
 ghost use Rattle.kv_lex.specs.declared.token.TokenKind.{TokenKind as KindTree};
 ghost use Rattle.kv_syn.specs.ProjectBridge.{plain_item, plain_proof, plain_theorem, plain_unit};
 ghost use Rattle.kv_syn.specs.Projects as P;
-ghost use Rattle.kv_syn.specs.RawBridge.{raw_form};
-ghost use Rattle.kv_syn.specs.RawTrees.{RawForm as RawTree};
 ghost use Rattle.kv_syn.specs.Readable.{is_readable_item, is_readable_unit};
 ghost use Rattle.kv_pexpr.specs.Gives.{kinds, Gives};
-ghost use Rattle.kv_pexpr.specs.Grammar.{ReadsForm, Stops};
+ghost use Rattle.kv_pexpr.specs.Grammar.{Stops};
 ghost use Rattle.kv_punit.specs.Ends.{AllTheorems, AllProofs, WholeUnit};
 ghost use Rattle.kv_punit.specs.Gives.{seen, Finds, IsThat};
 ghost use Rattle.kv_punit.specs.Grammar.{IsLabelled, IsStatement, IsTheorem};
@@ -20,9 +18,10 @@ use crate::items::{eat_declares, item};
 use crate::labels::proof_label;
 use crate::scripts::script;
 use crate::tokens::{end, mark, word};
+use crate::trees::form;
 use kv_lex::{Token, mark as row};
-use kv_pexpr::{ReadError, eat_name, eat_word, formula};
-use kv_syn::{Item, Kind, List, Name, Proof, RawForm, Theorem, Unit};
+use kv_pexpr::{ReadError, eat_name, eat_word};
+use kv_syn::{Item, Kind, List, Name, Proof, Theorem, Unit};
 use kv_table::keyword;
 use std::alloc::Global;
 
@@ -147,15 +146,6 @@ fn heading(alloc: Global, tokens: &[Token]) -> Result<(Name, &[Token]), ReadErro
 {
     let (name, rest) = eat_name(alloc, tokens)?;
     Ok((name, mark(rest, row::COLON)?))
-}
-
-/// The longest formula, and the tokens behind it.
-fn form(alloc: Global, tokens: &[Token]) -> Result<(RawForm, &[Token]), ReadError>
-    ensures found { IfOk result (λ found. ReadsForm (kinds tokens.now) (raw_form found.0) (kinds found.1.now)) }
-    ensures only { (f : RawTree) (us : List KindTree) → ReadsForm (kinds tokens.now) f us → Stops us → IsThat (seen raw_form) result (f, us) }
-{
-    let (form, place) = formula(alloc, tokens, 0)?;
-    Ok((form, &tokens[place..]))
 }
 
 /// The proofs that come first, as many as there are.

@@ -1,8 +1,9 @@
 -- What is met in a script in preorder, and what a replay tells of it.
 use Rattle.std.specs.Prelude.{ℕ, ◌+◌, ◌-◌, ◌^◌, min, Bool, ◌&&◌, ◌==◌, List, [], ◌∷◌, ◌++◌, Option, Some, None, is_none, Ok, Err}
-use Rattle.kv_script.specs.Answers.{Answer, answer}
+use Rattle.kv_script.specs.Answers.{Answer, answer, text_looks}
 use Rattle.kv_script.specs.Once.{names_once, looks_once}
-use Rattle.kv_syn.specs.Scripts.{Script, Scripts, Step}
+use Rattle.kv_sig.specs.Views.{View}
+use Rattle.kv_syn.specs.Scripts.{Script, Scripts, Step, StepText}
 use Rattle.kv_syn.specs.Trees.{Form, Name, Sequent}
 use Rattle.kv_syn.specs.declared.outcomes.Fault.{Fault}
 use Rattle.kv_syn.specs.declared.outcomes.Look.{Look}
@@ -29,24 +30,24 @@ on_premises (Err reason) below = []
 
 abbrev mutual
   -- of a script at a sequent
-  pub events : Sequent → List ℕ → Script → List Event
-  events s path Script.Hole = Event.open_goal path s ∷ []
-  events s path (Script.Node step children) =
-      Event.visit path s step (answer s step children) ∷ on_premises (answer s step children) (λ ps. events_below path 0 ps children)
+  pub events : View → Sequent → List ℕ → Script → List Event
+  events v s path Script.Hole = Event.open_goal path s ∷ []
+  events v s path (Script.Node step children) =
+      Event.visit path s step (answer v s step children) ∷ on_premises (answer v s step children) (λ ps. events_below v path 0 ps children)
 
   -- of the children of a step at its premises, from child i on
-  pub events_below : List ℕ → ℕ → List Sequent → Scripts → List Event
-  events_below path i ps Scripts.none = all_open path i ps
-  events_below path i [] (Scripts.more k rest) = []
-  events_below path i (p ∷ ps) (Scripts.more k rest) = events p (child_path path i) k ++ events_below path (i + 1) ps rest
+  pub events_below : View → List ℕ → ℕ → List Sequent → Scripts → List Event
+  events_below v path i ps Scripts.none = all_open path i ps
+  events_below v path i [] (Scripts.more k rest) = []
+  events_below v path i (p ∷ ps) (Scripts.more k rest) = events v p (child_path path i) k ++ events_below v path (i + 1) ps rest
 
 -- the goal alone on the right
 abbrev pub goal_sequent : Form → Sequent
 goal_sequent goal = record { left = []; right = goal ∷ [] }
 
 -- of a script at a goal
-abbrev pub replay_events : Form → Script → List Event
-replay_events goal script = events (goal_sequent goal) [] script
+abbrev pub replay_events : View → Form → Script → List Event
+replay_events v goal script = events v (goal_sequent goal) [] script
 
 -- the number of open goals
 abbrev pub goal_count : List Event → ℕ
@@ -61,26 +62,23 @@ first_fault (Event.open_goal path s ∷ es) = first_fault es
 first_fault (Event.visit path s step (Ok ps) ∷ es) = first_fault es
 first_fault (Event.visit path s step (Err reason) ∷ es) = Some (record { path = path; rule = step.rule; reason = reason })
 
--- the labels that a step uses: the rules so far use none
-abbrev pub uses_of : Step → List Name
-uses_of step = []
+-- the label that a step uses, where its text is one
+abbrev pub uses_of : StepText → List Name
+uses_of (StepText.OfLabel l) = l ∷ []
+uses_of _ = []
 
 -- the labels that the steps use that weren't refused
 abbrev pub used_labels : List Event → List Name
 used_labels [] = []
 used_labels (Event.open_goal path s ∷ es) = used_labels es
-used_labels (Event.visit path s step (Ok ps) ∷ es) = uses_of step ++ used_labels es
+used_labels (Event.visit path s step (Ok ps) ∷ es) = uses_of step.text ++ used_labels es
 used_labels (Event.visit path s step (Err reason) ∷ es) = used_labels es
-
--- what a step asks of its environment: the rules so far ask nothing
-abbrev pub looks_of : Step → List Look
-looks_of step = []
 
 -- what the visited steps ask
 abbrev pub asked_looks : List Event → List Look
 asked_looks [] = []
 asked_looks (Event.open_goal path s ∷ es) = asked_looks es
-asked_looks (Event.visit path s step a ∷ es) = looks_of step ++ asked_looks es
+asked_looks (Event.visit path s step a ∷ es) = text_looks step.text ++ asked_looks es
 
 -- the number of visited steps
 abbrev pub visits : List Event → ℕ

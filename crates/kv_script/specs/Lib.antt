@@ -4,3 +4,5 @@ pub mod Events
 pub mod Once
 pub mod Reasons
 pub mod Tallies
+pub mod Laws
+pub mod Keys

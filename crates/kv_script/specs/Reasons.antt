@@ -1,5 +1,7 @@
 -- The reasons of refusals, as an outcome shows them.
 use Rattle.std.specs.Prelude.{ℕ, List, [], ◌∷◌}
+use Rattle.kv_elab.specs.declared.errors.TypeError.{TypeError}
+use Rattle.kv_elab.specs.declared.errors.TypeError.TheVariants.{Unknown, Arity, Duplicate, Program}
 use Rattle.kv_sig.specs.declared.refusals.StepError.{StepError}
 use Rattle.kv_sig.specs.declared.refusals.StepError.TheVariants.{Position, Shape, Sort, NoLabel, NoBody, NoGeneration, NotFresh, Captured, Large, NoMemory}
 use Rattle.kv_syn.specs.Trees.{Name}
@@ -26,3 +28,12 @@ refusal_reason NoMemory = reason_with reason.LARGE []
 -- more children than premises
 abbrev pub surplus_reason : Reason
 surplus_reason = reason_with reason.SURPLUS []
+
+-- a fault of typing as a reason; no text is ill for want of memory, so that reason never comes
+abbrev pub typing_reason : TypeError → Reason
+typing_reason (Unknown name) = reason_with reason.UNKNOWN (name ∷ [])
+typing_reason (Arity name) = reason_with reason.ARITY (name ∷ [])
+typing_reason (TypeError.Sort want got) = reason_with reason.SORT (want ∷ got ∷ [])
+typing_reason (Duplicate name) = reason_with reason.DUPLICATE (name ∷ [])
+typing_reason Program = reason_with reason.PROGRAM []
+typing_reason TypeError.NoMemory = reason_with reason.LARGE []

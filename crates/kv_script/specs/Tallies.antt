@@ -1,10 +1,12 @@
 -- Events that are told to a tally.
-use Rattle.std.specs.Prelude.{◌+◌, ◌-◌, ◌^◌, min, List, map, Option, Some, None, Ok, Err, Result, ◌≡◌}
+use Rattle.std.specs.Prelude.{◌+◌, ◌-◌, ◌^◌, min, List, ◌++◌, map, Option, Some, None, Ok, Err, Result, ◌≡◌, ◌==◌, ◌&&◌, is_none}
 use Rattle.kv_script.specs.Answers.{Answer}
-use Rattle.kv_script.specs.Events.{Event, goal_count, first_fault}
+use Rattle.kv_script.specs.Events.{Event, goal_count, first_fault, used_labels, asked_looks}
+use Rattle.kv_script.specs.Once.{names_once, looks_once}
 use Rattle.kv_script.specs.declared.tally.Tally.{Tally}
 use Rattle.kv_syn.specs.Bridge.{plain_sequent}
 use Rattle.kv_syn.specs.declared.outcomes.Fault.{Fault}
+use Rattle.kv_syn.specs.declared.outcomes.Outcome.{Outcome}
 use Rattle.kv_syn.specs.declared.outcomes.Reason.{Reason}
 use Rattle.kv_syn.specs.declared.trees.Sequent.{Sequent}
 
@@ -18,7 +20,19 @@ abbrev pub or_first : Option Fault → Option Fault → Option Fault
 or_first None fault = fault
 or_first (Some first) fault = Some first
 
--- the tally tells of these events after what it told before
+-- the tally tells of these events after what it told before; labels and looks as often as they come
 pub record Told (before now : Tally) (es : List Event) : Type 0 where
   pub goals : now.goals ≡ min (before.goals + goal_count es) (2 ^ 64 - 1)
   pub broken : now.broken ≡ or_first before.broken (first_fault es)
+  pub uses : now.uses ≡ before.uses ++ used_labels es
+  pub looks : now.looks ≡ before.looks ++ asked_looks es
+
+-- what a tally tells at the end
+abbrev pub tally_outcome : Tally → Outcome
+tally_outcome t = record {
+  closed = t.goals == 0 && is_none t.broken;
+  goals = t.goals;
+  broken = t.broken;
+  uses = names_once t.uses;
+  looks = looks_once t.looks;
+}

@@ -2,10 +2,19 @@
 #![tactic(auto)]
 
 mod answers;
+mod context;
+mod laws;
+mod looks;
+mod once;
+mod reasons;
 mod replaying;
 mod tally;
 
+pub use laws::equal_answers_equal_replays;
+pub use reasons::typing_reason;
 pub use replaying::replay;
 
 #[cfg(test)]
 mod tests;
+#[cfg(test)]
+mod text_tests;

@@ -4,6 +4,7 @@ ghost use Rattle.std.specs.Prelude.{◌≡◌, ◌+◌, ◌≤◌, true, map, If
 ghost use Rattle.kv_script.specs.Derives.{Derives};
 ghost use Rattle.kv_script.specs.Events.{outcome_of, events, events_below, replay_events, visits};
 ghost use Rattle.kv_script.specs.Tallies.{Told};
+ghost use Rattle.kv_sig.specs.Views.{view_of};
 ghost use Rattle.kv_syn.specs.Bridge.{plain_form, plain_sequent};
 ghost use Rattle.kv_syn.specs.Rows.{has_fault_rows};
 ghost use Rattle.kv_syn.specs.ScriptBridge.{plain_script, plain_scripts};
@@ -28,10 +29,10 @@ pub fn replay<L: Ledger>(
     steps: &mut Steps<L>,
 ) -> Result<Outcome, NoMemory>
     ensures rows { IfOk result (λ outcome. has_fault_rows outcome.broken ≡ true) }
-    ensures outcome { IfOk result (λ outcome. outcome ≡ outcome_of (replay_events (plain_form goal.now) (plain_script script.now))) }
+    ensures outcome { IfOk result (λ outcome. outcome ≡ outcome_of (replay_events (view_of env.now.flat.now) (plain_form goal.now) (plain_script script.now))) }
     ensures derivable { IfOk result (λ outcome. Derives env.now.flat.now (plain_form goal.now) outcome) }
-    ensures steps { OnOk result (steps.new ≡ steps.old + visits (replay_events (plain_form goal.now) (plain_script script.now))) }
-    ensures at_most { steps.new ≤ steps.old + visits (replay_events (plain_form goal.now) (plain_script script.now)) }
+    ensures steps { OnOk result (steps.new ≡ steps.old + visits (replay_events (view_of env.now.flat.now) (plain_form goal.now) (plain_script script.now))) }
+    ensures at_most { steps.new ≤ steps.old + visits (replay_events (view_of env.now.flat.now) (plain_form goal.now) (plain_script script.now)) }
 {
     let mut right = List::new(alloc);
     right.push(goal.copy(alloc)?)?;
@@ -43,9 +44,11 @@ pub fn replay<L: Ledger>(
     let mut tally = Tally {
         goals: 0,
         broken: None,
+        uses: List::new(alloc),
+        looks: List::new(alloc),
     };
     replay_at(alloc, env, &root, script, &mut path, &mut tally, steps)?;
-    Ok(tally.outcome(alloc))
+    tally.outcome(alloc)
 }
 
 /// Replays a script at a sequent.
@@ -62,9 +65,9 @@ fn replay_at<L: Ledger>(
     requires { has_fault_rows tally.old.broken ≡ true }
     ensures rows { OnOk result (has_fault_rows tally.new.broken ≡ true) }
     ensures path { OnOk result (path.new ≡ path.old) }
-    ensures told { OnOk result (Told tally.old tally.new (events (plain_sequent sequent.now) path.old (plain_script script.now))) }
-    ensures steps { OnOk result (steps.new ≡ steps.old + visits (events (plain_sequent sequent.now) path.old (plain_script script.now))) }
-    ensures at_most { steps.new ≤ steps.old + visits (events (plain_sequent sequent.now) path.old (plain_script script.now)) }
+    ensures told { OnOk result (Told tally.old tally.new (events (view_of env.now.flat.now) (plain_sequent sequent.now) path.old (plain_script script.now))) }
+    ensures steps { OnOk result (steps.new ≡ steps.old + visits (events (view_of env.now.flat.now) (plain_sequent sequent.now) path.old (plain_script script.now))) }
+    ensures at_most { steps.new ≤ steps.old + visits (events (view_of env.now.flat.now) (plain_sequent sequent.now) path.old (plain_script script.now)) }
 {
     let _goals = tally.goals;
     match script {
@@ -74,17 +77,21 @@ fn replay_at<L: Ledger>(
         }
         Script::Node(step, children) => {
             steps.tick();
+            tally.ask(alloc, &step.text)?;
             match answer(alloc, env, sequent, step, children.items())? {
                 Err(reason) => tally.refuse(alloc, path, step.rule, reason),
-                Ok(premises) => replay_below(
-                    alloc,
-                    env,
-                    premises.items(),
-                    children.items(),
-                    path,
-                    tally,
-                    steps,
-                ),
+                Ok(premises) => {
+                    tally.use_label(alloc, &step.text)?;
+                    replay_below(
+                        alloc,
+                        env,
+                        premises.items(),
+                        children.items(),
+                        path,
+                        tally,
+                        steps,
+                    )
+                }
             }
         }
     }
@@ -104,9 +111,9 @@ fn replay_below<L: Ledger>(
     requires { has_fault_rows tally.old.broken ≡ true }
     ensures rows { OnOk result (has_fault_rows tally.new.broken ≡ true) }
     ensures path { OnOk result (path.new ≡ path.old) }
-    ensures told { OnOk result (Told tally.old tally.new (events_below path.old 0 (map plain_sequent premises.now) (plain_scripts children.now))) }
-    ensures steps { OnOk result (steps.new ≡ steps.old + visits (events_below path.old 0 (map plain_sequent premises.now) (plain_scripts children.now))) }
-    ensures at_most { steps.new ≤ steps.old + visits (events_below path.old 0 (map plain_sequent premises.now) (plain_scripts children.now)) }
+    ensures told { OnOk result (Told tally.old tally.new (events_below (view_of env.now.flat.now) path.old 0 (map plain_sequent premises.now) (plain_scripts children.now))) }
+    ensures steps { OnOk result (steps.new ≡ steps.old + visits (events_below (view_of env.now.flat.now) path.old 0 (map plain_sequent premises.now) (plain_scripts children.now))) }
+    ensures at_most { steps.new ≤ steps.old + visits (events_below (view_of env.now.flat.now) path.old 0 (map plain_sequent premises.now) (plain_scripts children.now)) }
 {
     let _goals = tally.goals;
     let mut place = 0u32;

@@ -12,7 +12,7 @@ use std::sync::ledger::{Blank, Ledger};
 use std::test::Fail;
 
 /// The formula that the letters spell: a predicate, or `>`, which joins the two before it.
-fn form(alloc: Global, text: &str) -> Result<Form, NoMemory> {
+pub fn form(alloc: Global, text: &str) -> Result<Form, NoMemory> {
     let mut forms = List::new(alloc);
     for letter in text.as_bytes() {
         let form = if *letter == b'>' {
@@ -93,6 +93,7 @@ fn fresh(alloc: Global) -> Result<Script, NoMemory> {
 
 fn counted<L: Ledger>(
     alloc: Global,
+    flat: &Flat,
     goal: &Form,
     script: &Script,
     blank: Blank,
@@ -101,25 +102,32 @@ fn counted<L: Ledger>(
     requires parts { blank.parts ≡ L.parts }
     requires some { 0 < L.parts }
 {
+    let env = Env { flat, before: 0 };
+    let mut steps = Steps::<L>::start(blank);
+    replay(alloc, &env, goal, script, &mut steps)
+}
+
+/// The outcome of the script at the goal, in this environment.
+pub fn replayed_in(
+    alloc: Global,
+    flat: &Flat,
+    goal: &Form,
+    script: &Script,
+) -> Result<Outcome, NoMemory> {
+    counted::<Brand>(alloc, flat, goal, script, Blank::new(1))
+}
+
+/// The outcome of the script at the goal, without any symbol and entry.
+fn replayed(alloc: Global, goal: &str, text: &str) -> Result<Outcome, NoMemory> {
+    let goal = form(alloc, goal)?;
+    let script = script(alloc, text)?;
     let flat = Flat {
         sig: Sig::new(alloc),
         entries: List::new(alloc),
         gens: List::new(alloc),
         bodies: List::new(alloc),
     };
-    let env = Env {
-        flat: &flat,
-        before: 0,
-    };
-    let mut steps = Steps::<L>::start(blank);
-    replay(alloc, &env, goal, script, &mut steps)
-}
-
-/// The outcome of the script at the goal.
-fn replayed(alloc: Global, goal: &str, text: &str) -> Result<Outcome, NoMemory> {
-    let goal = form(alloc, goal)?;
-    let script = script(alloc, text)?;
-    counted::<Brand>(alloc, &goal, &script, Blank::new(1))
+    replayed_in(alloc, &flat, &goal, &script)
 }
 
 #[test]

@@ -1,6 +1,6 @@
 -- The pieces of a layout fit one another.
 use Rattle.std.proofs.Common.{ℕ, ◌≡◌, List, [], ◌∷◌, ◌++◌, refl, ◌∙◌, sym, arith, subst, inl, inr, append_assoc, append-nil}
-use Rattle.std.specs.Prelude.{Bool, true, false, if◌then◌else◌, nat_le, length, codes, flat_map}
+use Rattle.std.specs.Prelude.{Bool, true, false, if◌then◌else◌, ◌==◌, nat_le, length, codes, flat_map}
 use Rattle.std.specs.List.{All}
 use Rattle.std.proofs.lemmas.List.Elements.{All-head, All-tail}
 use Rattle.kv_print.specs.Forms.{Printed, infixed, operand, printed_form, form_pieces, more_names, more_terms, names_pieces, term_pieces, terms_pieces, var_pieces}
@@ -9,18 +9,22 @@ use Rattle.kv_print.specs.Layout.{item_line, item_pieces, kind_pieces, theorem_p
 use Rattle.kv_print.specs.Pieces.{Piece}
 use Rattle.kv_print.specs.Pieces.Piece.{Space, Break, Word, Ident, Mark}
 use Rattle.kv_print.specs.Scripts.{step_pieces, script_pieces, children_pieces, other_children, behind_step}
+use Rattle.kv_punit.specs.Steps.{with_form}
+use Rattle.kv_punit.specs.declared.steps.Takes.TheVariants as take
 use Rattle.kv_session.specs.Spellable.{IsName, IsVar, IsTerm, AreTerms, IsForm, IsStep, IsScript, AreScripts, IsItem, IsKind, IsTheorem, IsProof, IsUnit, IsSpellable}
 use Rattle.kv_session.specs.Spellable as s
 use Rattle.kv_session.proofs.Tokens.{AreFit, Ends, Fits}
 use Rattle.kv_session.proofs.Tokens as k
-use Rattle.kv_session.proofs.Rules.{one_word, two_word}
+use Rattle.kv_session.proofs.Rules.{IsRuleWord, rule_word, cut_row}
 use Rattle.kv_session.proofs.Words.{is_word}
 use Rattle.kv_syn.specs.Projects.{Theorem, Proof, Item, Kind, Project}
 use Rattle.kv_syn.specs.Projects as P
 use Rattle.kv_syn.specs.RawTrees.{RawTerm, RawTerms, RawForm}
 use Rattle.kv_syn.specs.Scripts.{Step, Script, Scripts}
 use Rattle.kv_syn.specs.Trees.{Name}
+use Rattle.kv_syn.specs.declared.scripts.Side.TheVariants.{L, R}
 use Rattle.kv_syn.specs.declared.symbols.Var.{Var}
+use Rattle.kv_table.specs.declared.rule.TheConstants as rule
 
 -- pieces that fit before all that ends a word
 abbrev pub Leads : List Piece → Type 0
@@ -115,13 +119,36 @@ form_leads (s.ex {x = x} {f = f} is r) = quantified_leads (codes "ex") x (operan
 
 -- ---- scripts
 
+-- the formula of a step stands behind the word of its rule
+formula_leads : (row : ℕ) (f : RawForm) → IsRuleWord row → (row == rule.CUT) ≡ true → Leads (form_pieces f) → Leads (step_pieces (with_form row f))
+formula_leads row f w cut leads qs e fit = rw cut ((w.letters, w.short, tt), (tt, leads qs e fit))
+
 pub step_leads : {step : Step} → IsStep step → Leads (step_pieces step)
 step_leads (s.one {row = row} takes number) qs e fit =
-    let w = one_word row takes in
+    let w = rule_word row take.One takes in
     ((w.letters, w.short, tt), (tt, ((number, e), fit)))
 step_leads (s.two {row = row} takes first second) qs e fit =
-    let w = two_word row takes in
+    let w = rule_word row take.Two takes in
     ((w.letters, w.short, tt), (tt, ((first, tt), (tt, ((second, e), fit)))))
+step_leads (s.name {row = row} takes number name) qs e fit =
+    let w = rule_word row take.Name takes in
+    ((w.letters, w.short, tt), (tt, ((number, tt), (tt, ((refl, refl, tt), (tt, ((name, e), fit)))))))
+step_leads (s.term {row = row} {t = t} takes number is low) qs e fit =
+    let w = rule_word row take.Term takes in
+    ((w.letters, w.short, tt), (tt, ((number, tt), (tt, ((refl, refl, tt), (tt, term_leads is qs e fit))))))
+step_leads (s.form {row = row} {f = f} takes is low) qs e fit = formula_leads row f (rule_word row take.Form takes) (cut_row row takes) (form_leads is) qs e fit
+step_leads (s.side {row = row} {s = L} takes number) qs e fit =
+    let w = rule_word row take.Side takes in
+    ((w.letters, w.short, tt), (tt, ((refl, refl, tt), (tt, ((number, e), fit)))))
+step_leads (s.side {row = row} {s = R} takes number) qs e fit =
+    let w = rule_word row take.Side takes in
+    ((w.letters, w.short, tt), (tt, ((refl, refl, tt), (tt, ((number, e), fit)))))
+step_leads (s.two_sided {row = row} {s = L} takes first second) qs e fit =
+    let w = rule_word row take.TwoSided takes in
+    ((w.letters, w.short, tt), (tt, ((first, tt), (tt, ((refl, refl, tt), (tt, ((second, e), fit)))))))
+step_leads (s.two_sided {row = row} {s = R} takes first second) qs e fit =
+    let w = rule_word row take.TwoSided takes in
+    ((w.letters, w.short, tt), (tt, ((first, tt), (tt, ((refl, refl, tt), (tt, ((second, e), fit)))))))
 
 behind_joins : (rest : Scripts) (first others : List Piece) → Leads first → Joins others → Joins (behind_step rest first others)
 behind_joins Scripts.none first others leads more = record {

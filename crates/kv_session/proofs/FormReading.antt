@@ -5,7 +5,7 @@ use Rattle.kv_lex.specs.Marks.{mark_rows}
 use Rattle.kv_lex.specs.declared.mark.TheConstants.{CLOSE, COMMA, EQUAL, ARROW, DOUBLE_ARROW}
 use Rattle.kv_lex.specs.declared.token.TokenKind.{TokenKind}
 use Rattle.kv_lex.specs.declared.token.TokenKind.TheVariants.{Word as WordToken, Mark as MarkToken}
-use Rattle.kv_pexpr.specs.Grammar.{IsTerm, AreTerms, IsForm, IsUna, ReadsForm}
+use Rattle.kv_pexpr.specs.Grammar.{IsTerm, AreTerms, IsForm, IsUna, ReadsForm, ReadsTerm}
 use Rattle.kv_pexpr.specs.Grammar as f
 use Rattle.kv_print.specs.Forms.{operand, printed_form, form_pieces, term_pieces, terms_pieces, more_terms}
 use Rattle.kv_print.specs.Pieces.{Piece}
@@ -137,3 +137,6 @@ form_reads (s.iff {f = p} {g = q} r t) = joined {form = RawForm.Iff p q} (omega 
 
 pub reads_form : (form : RawForm) (us : List TokenKind) → s.IsForm form → raw_form_depth form ≤ 150 → ReadsForm (before (form_pieces form) us) form us
 reads_form form us is low = ((form_reads is).outer 150 us (omega arith), low)
+
+pub reads_term : (t : RawTerm) (us : List TokenKind) → raw_term_depth t ≤ 150 → ReadsTerm (before (term_pieces t) us) t us
+reads_term t us low = (term_reads t 150 us (omega arith), low)

@@ -1,9 +1,10 @@
 -- The tokens of a layout are read as what is laid out.
-use Rattle.std.proofs.Common.{ℕ, suc, ◌≡◌, List, [], ◌∷◌, ◌++◌}
-use Rattle.std.specs.Prelude.{Bool, false, None, codes, flat_map}
+use Rattle.std.proofs.Common.{ℕ, suc, ◌≡◌, List, [], ◌∷◌, ◌++◌, refl}
+use Rattle.std.specs.Prelude.{Bool, false, Some, None, codes, flat_map}
 use Rattle.std.specs.List.{All}
 use Rattle.std.proofs.lemmas.List.Elements.{All-head, All-tail}
 use Rattle.kv_lex.specs.Marks.{mark_rows}
+use Rattle.kv_lex.specs.Tokens as lex
 use Rattle.kv_lex.specs.declared.mark.TheConstants.{CLOSE, OPEN_BRACE, CLOSE_BRACE, SEMICOLON, EQUAL, ARROW, BAR}
 use Rattle.kv_lex.specs.declared.token.TokenKind.{TokenKind}
 use Rattle.kv_lex.specs.declared.token.TokenKind.TheVariants.{Word as WordToken, Ident as IdentToken, Mark as MarkToken}
@@ -15,25 +16,50 @@ use Rattle.kv_print.specs.Pieces.{Piece}
 use Rattle.kv_print.specs.Pieces.Piece.{Space, Break, Word, Mark}
 use Rattle.kv_print.specs.Scripts.{step_pieces, script_pieces, other_children}
 use Rattle.kv_punit.specs.Grammar as g
+use Rattle.kv_punit.specs.declared.steps.Takes.TheVariants as take
 use Rattle.kv_session.specs.Spellable as s
-use Rattle.kv_session.proofs.FormReading.{reads_form}
+use Rattle.kv_session.proofs.FormReading.{reads_form, reads_term}
 use Rattle.kv_session.proofs.Labels.{label_reads, label_no_colon}
-use Rattle.kv_session.proofs.Rules.{one_word, two_word}
+use Rattle.kv_session.proofs.Rules.{rule_word, cut_row}
 use Rattle.kv_session.proofs.Tokens.{before, before_append}
 use Rattle.kv_syn.specs.Projects.{Theorem, Proof, Item, Kind, Project}
 use Rattle.kv_syn.specs.Projects as P
 use Rattle.kv_syn.specs.RawTrees.{RawForm}
 use Rattle.kv_syn.specs.Scripts.{Step, Script, Scripts}
 use Rattle.kv_syn.specs.Trees.{Name}
+use Rattle.kv_syn.specs.declared.scripts.Side.TheVariants.{L, R}
 use Rattle.kv_syn.specs.declared.symbols.Var.{Var}
 use Rattle.kv_table.specs.Tables.{keyword_rows}
 use Rattle.kv_table.specs.declared.keyword.TheConstants as word
 
 -- ---- scripts
 
+as_token : lex.word (codes "as") ≡ Some (WordToken word.AS)
+unfolding keyword_rows
+as_token = refl
+
+with_token : lex.word (codes "with") ≡ Some (WordToken word.WITH)
+unfolding keyword_rows
+with_token = refl
+
+left_token : lex.word (codes "L") ≡ Some (IdentToken (codes "L"))
+unfolding keyword_rows
+left_token = refl
+
+right_token : lex.word (codes "R") ≡ Some (IdentToken (codes "R"))
+unfolding keyword_rows
+right_token = refl
+
 step_reads : {step : Step} → s.IsStep step → (us : List TokenKind) → g.IsStep (before (step_pieces step) us) step us
-step_reads (s.one {row = row} takes number) us = let w = one_word row takes in rw w.name (g.one w.found takes)
-step_reads (s.two {row = row} takes first second) us = let w = two_word row takes in rw w.name (g.two w.found takes)
+step_reads (s.one {row = row} takes number) us = let w = rule_word row take.One takes in rw w.name (g.one w.found takes)
+step_reads (s.two {row = row} takes first second) us = let w = rule_word row take.Two takes in rw w.name (g.two w.found takes)
+step_reads (s.name {row = row} takes number name) us = let w = rule_word row take.Name takes in rw (w.name, as_token) (g.name w.found takes)
+step_reads (s.term {row = row} {t = t} takes number is low) us = let w = rule_word row take.Term takes in rw (w.name, with_token) (g.term w.found takes (reads_term t us low))
+step_reads (s.form {row = row} {f = f} takes is low) us = let w = rule_word row take.Form takes in rw (w.name, cut_row row takes) (g.form w.found takes (reads_form f us is low))
+step_reads (s.side {row = row} {s = L} takes number) us = let w = rule_word row take.Side takes in rw (w.name, left_token) (g.side {s = L} w.found takes)
+step_reads (s.side {row = row} {s = R} takes number) us = let w = rule_word row take.Side takes in rw (w.name, right_token) (g.side {s = R} w.found takes)
+step_reads (s.two_sided {row = row} {s = L} takes first second) us = let w = rule_word row take.TwoSided takes in rw (w.name, left_token) (g.two_sided {s = L} w.found takes)
+step_reads (s.two_sided {row = row} {s = R} takes first second) us = let w = rule_word row take.TwoSided takes in rw (w.name, right_token) (g.two_sided {s = R} w.found takes)
 
 hole_reads : (n : ℕ) (us : List TokenKind) → g.IsScript n (before (script_pieces Script.Hole) us) Script.Hole us
 unfolding keyword_rows

@@ -106,6 +106,11 @@ label_spelt (g.colon {n = n} {l = l} r) none good = absurd (let e = colon_behind
 step_spelt : {ts us : List TokenKind} {step : Step} → g.IsStep ts step us → AreGood ts → s.IsStep step × AreGood us
 step_spelt (g.one found takes) good = (s.one takes good.1.0, good.1.1)
 step_spelt (g.two found takes) good = (s.two takes good.1.0 good.1.1.0, good.1.1.1)
+step_spelt (g.name found takes) good = (s.name takes good.1.0 good.1.1.1.0, good.1.1.1.1)
+step_spelt (g.term found takes r) good = let term = term_spelt r.0 good.1.1.1 in (s.term takes good.1.0 term.0 r.1, term.1)
+step_spelt (g.form found takes r) good = let form = form_spelt r.0 good.1 in (s.form takes form.0 r.1, form.1)
+step_spelt (g.side found takes) good = (s.side takes good.1.1.0, good.1.1.1)
+step_spelt (g.two_sided found takes) good = (s.two_sided takes good.1.0 good.1.1.1.0, good.1.1.1.1)
 
 mutual
   script_spelt : {n : ℕ} {ts us : List TokenKind} {script : Script} → g.IsScript n ts script us → AreGood ts → s.IsScript n script × AreGood us

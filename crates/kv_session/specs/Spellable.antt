@@ -1,19 +1,22 @@
 -- The projects that a text can spell: what the tokens, the grammar and the limits ask of each part.
-use Rattle.std.specs.Prelude.{ℕ, suc, ◌≡◌, ◌≤◌, ◌<◌, ◌^◌, true, false, List, [], ◌∷◌, ◌++◌, Some, None}
+use Rattle.std.specs.Prelude.{ℕ, suc, ◌≡◌, ◌≤◌, ◌<◌, ◌^◌, false, List, [], ◌∷◌, ◌++◌, Some, None}
 use Rattle.std.specs.List.{All}
 use Rattle.std.specs.Str.{chars, IsUtf8}
 use Rattle.kv_lex.specs.Tokens.{token_at}
 use Rattle.kv_lex.specs.declared.token.TokenKind.TheVariants.{Ident}
 use Rattle.kv_pexpr.specs.Grammar.{tree_height}
-use Rattle.kv_punit.specs.Grammar.{numbered, takes_one, takes_two, path_steps}
+use Rattle.kv_punit.specs.Grammar.{path_steps}
 use Rattle.kv_punit.specs.Limits.{IsWellformed, HasFewSteps, HasFewUnits, HasFewTheorems, script_steps}
+use Rattle.kv_punit.specs.Steps.{takes, numbered, with_name, with_term, with_form, sided}
+use Rattle.kv_punit.specs.declared.steps.Takes.TheVariants as take
 use Rattle.kv_session.specs.Edits.{Edit}
 use Rattle.kv_syn.specs.Projects.{Theorem, Proof, Item, Kind}
 use Rattle.kv_syn.specs.Projects as P
-use Rattle.kv_syn.specs.RawCount.{raw_form_depth}
+use Rattle.kv_syn.specs.RawCount.{raw_form_depth, raw_term_depth}
 use Rattle.kv_syn.specs.RawTrees.{RawTerm, RawTerms, RawForm}
 use Rattle.kv_syn.specs.Scripts.{Step, Script, Scripts}
 use Rattle.kv_syn.specs.Trees.{Name}
+use Rattle.kv_syn.specs.declared.scripts.Side.{Side}
 use Rattle.kv_syn.specs.declared.symbols.Var.{Var}
 
 -- a text that reads as one name, and so as no keyword
@@ -58,10 +61,15 @@ pub data IsForm : RawForm → Type 0 where
   all : {x : Var} {f : RawForm} → IsVar x → IsForm f → IsForm (RawForm.All x f)
   ex : {x : Var} {f : RawForm} → IsVar x → IsForm f → IsForm (RawForm.Ex x f)
 
--- steps with the numbers that their rule takes
+-- steps with what their rule takes
 pub data IsStep : Step → Type 0 where
-  one : {row i : ℕ} → takes_one row ≡ true → IsNumber i → IsStep (numbered row (i ∷ []))
-  two : {row i j : ℕ} → takes_two row ≡ true → IsNumber i → IsNumber j → IsStep (numbered row (i ∷ j ∷ []))
+  one : {row i : ℕ} → takes row ≡ Some take.One → IsNumber i → IsStep (numbered row (i ∷ []))
+  two : {row i j : ℕ} → takes row ≡ Some take.Two → IsNumber i → IsNumber j → IsStep (numbered row (i ∷ j ∷ []))
+  name : {row i : ℕ} {x : Name} → takes row ≡ Some take.Name → IsNumber i → IsName x → IsStep (with_name row i x)
+  term : {row i : ℕ} {t : RawTerm} → takes row ≡ Some take.Term → IsNumber i → IsTerm t → raw_term_depth t ≤ tree_height → IsStep (with_term row i t)
+  form : {row : ℕ} {f : RawForm} → takes row ≡ Some take.Form → IsForm f → raw_form_depth f ≤ tree_height → IsStep (with_form row f)
+  side : {row i : ℕ} {s : Side} → takes row ≡ Some take.Side → IsNumber i → IsStep (sided row s (i ∷ []))
+  two_sided : {row i j : ℕ} {s : Side} → takes row ≡ Some take.TwoSided → IsNumber i → IsNumber j → IsStep (sided row s (i ∷ j ∷ []))
 
 -- scripts with at most so many steps on a path
 mutual

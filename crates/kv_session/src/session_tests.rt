@@ -120,3 +120,28 @@ fn each_form(rt: HostRuntime) -> Result<(), Fail> {
     assert_eq!(rt; again.as_slice(), FORMS);
     Ok(())
 }
+
+const STEPS: &[u8] =
+    b"project 1\nunit S basic\n  sort s;\n  fun c : s;\n  pred p : s;\nend\ntheorem t : c = c;\nproof t = cut all x : s . p(x) { allL 1 with c; swap L 1; close 1 2 | allR 1 as y; subst 1 R 2 { exL 1 as x | open } } qed\n";
+
+/// Each form of a step is saved as a text that reads as it.
+#[test]
+fn each_step(rt: HostRuntime) -> Result<(), Fail> {
+    let alloc = rt.alloc();
+    let commands: [&[u8]; 4] = [
+        b"add unit S basic sort s;fun c:s;pred p:s;end",
+        b"theorem S t : c=c",
+        b"proof S t = cut all x:s.(p(x)){allL 1 with c;swap L 1;close 1 2|allR 1 as y;subst 1 R 2{exL 1 as x|open}}",
+        b"save",
+    ];
+    let given = answers(alloc, b"project 1", &commands)?;
+    let mut wanted =
+        b"ok valid 0 open 0 invalid 0\n.\nok valid 0 open 1 invalid 0\n.\nok valid 0 open 0 invalid 1\n.\n!saved\n.\n".to_vec(
+            alloc,
+        )?;
+    wanted.extend_from_slice(STEPS)?;
+    assert_eq!(rt; given.as_slice(), wanted.as_slice());
+    let again = answers(alloc, STEPS, &[])?;
+    assert_eq!(rt; again.as_slice(), STEPS);
+    Ok(())
+}

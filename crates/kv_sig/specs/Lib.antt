@@ -4,3 +4,6 @@ pub mod Members
 pub mod Typing
 pub mod FreeNames
 pub mod Places
+pub mod Views
+pub mod Steps
+pub mod Sequents

@@ -22,7 +22,7 @@ use Rattle.kv_subst.proofs.Anywhere.{form_anywhere, prog_anywhere}
 use Rattle.kv_subst.proofs.Found.{form_found, prog_found, mod_found}
 use Rattle.kv_subst.proofs.FreeIn.{or_joined, and_joined, place_opened, ref_as_term, place_renamed, place_closed}
 use Rattle.kv_subst.proofs.Fits.{admissible_fits, prog_admissible_fits}
-use Rattle.kv_subst.proofs.Sizes.{form_within, prog_within}
+use Rattle.kv_syn.proofs.Depths.{form_within, prog_within}
 
 -- no condition on references
 abbrev Any : ℕ → Ref → Type 0

@@ -18,6 +18,7 @@ pub use laws::{
     typing_of_an_opening, variables_of_a_renaming, variables_of_an_opening,
 };
 pub use opening::{close_var, open, open_prog, open_var};
+pub use places::term_raised;
 pub use renaming::rename;
 
 #[cfg(test)]

@@ -25,7 +25,7 @@ fn ref_raised(alloc: Global, place: &Ref, by: u32) -> Result<Ref, NoMemory>
 
 /// The term under so many more binders.
 #[cycle(term_raised)]
-fn term_raised(alloc: Global, term: &Term, by: u32) -> Result<Term, NoMemory>
+pub fn term_raised(alloc: Global, term: &Term, by: u32) -> Result<Term, NoMemory>
     requires { term_reach (plain_term term.now) + by < 2 ^ 32 }
     ensures { IfOk result (λ t. plain_term t ≡ raised_term by (plain_term term.now)) }
 {

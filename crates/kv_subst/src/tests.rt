@@ -27,10 +27,16 @@ fn may_open(body: &Form, at: &Term) -> Result<bool, Bad> {
     Ok(admissible(body, at))
 }
 
-// Whether the row `BODY at TERM is FORM` holds, and the opening is admissible.
-fn opens(alloc: Global, row: &str) -> Result<bool, Bad> {
+// The body, the term and the outcome of a row `BODY at TERM is OUTCOME`.
+fn parts(row: &str) -> Result<(&str, &str, &str), Bad> {
     let (body, rest) = row.split_once(" at ").ok_or(Bad::Other)?;
     let (at, wanted) = rest.split_once(" is ").ok_or(Bad::Other)?;
+    Ok((body, at, wanted))
+}
+
+// Whether the row `BODY at TERM is FORM` holds, and the opening is admissible.
+fn opens(alloc: Global, row: &str) -> Result<bool, Bad> {
+    let (body, at, wanted) = parts(row)?;
     let body = form(alloc, body)?;
     let at = term(alloc, at)?;
     let found = opened(alloc, body.get(), at.get())?;
@@ -148,8 +154,7 @@ fn block_opened(alloc: Global, body: &Prog, at: &Term) -> Result<Boxed<Prog>, Ba
 
 // Whether the row `BODY at TERM is PROG` holds.
 fn opens_block(alloc: Global, row: &str) -> Result<bool, Bad> {
-    let (body, rest) = row.split_once(" at ").ok_or(Bad::Other)?;
-    let (at, wanted) = rest.split_once(" is ").ok_or(Bad::Other)?;
+    let (body, at, wanted) = parts(row)?;
     let body = prog(alloc, body)?;
     let at = term(alloc, at)?;
     let found = block_opened(alloc, body.get(), at.get())?;

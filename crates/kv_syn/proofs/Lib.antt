@@ -1,3 +1,4 @@
 pub mod Same
 pub mod Induction
 pub mod Inverse
+pub mod Depths

@@ -204,7 +204,7 @@ fn refused_texts(rt: HostRuntime) -> Result<(), Fail> {
         b"project 1\nunit A basic pred a; end theorem t : a & a;",
         b"project 1\nunit A basic pred a; end theorem t : a <-> a <-> a;",
         b"project 1\nunit A basic pred a; end theorem t : a; proof t = impR 1; close 1 1",
-        b"project 1\nunit A basic pred a; end theorem t : a; proof t = orL 1 qed",
+        b"project 1\nunit A basic pred a; end theorem t : a; proof t = use t qed",
         b"project 1\nunit A basic pred a; end theorem t : a; proof A:t = open qed",
         b"project 1\nunit A basic pred unit; end theorem t : unit;",
         b"project 1\nunit A basic end unit A basic end",

@@ -1,5 +1,5 @@
 use Rattle.std.proofs.Common.{rules}
-use Rattle.kv_print.proofs.Depths.{form_within}
+use Rattle.kv_syn.proofs.Depths.{form_within}
 use Rattle.kv_syn.specs.Bridge.{plain_form}
 use Rattle.kv_print.proofs.shown.form_text.Goals as goal
 

@@ -1,5 +1,5 @@
 use Rattle.std.proofs.Common.{rules}
-use Rattle.kv_print.proofs.Depths.{prog_within}
+use Rattle.kv_syn.proofs.Depths.{prog_within}
 use Rattle.kv_syn.specs.Bridge.{plain_prog}
 use Rattle.kv_print.proofs.shown.prog_text.Goals as goal
 

@@ -1,0 +1,91 @@
+// The rules for equations.
+
+ghost use Rattle.std.specs.Prelude.{◌≡◌, map};
+ghost use Rattle.kv_sig.specs.Sequents.{in_place};
+ghost use Rattle.kv_syn.specs.Bridge.{plain_sequent, plain_term};
+ghost use Rattle.kv_syn.specs.Same.{term_eq};
+ghost use Rattle.kv_syn.specs.Trees.{Form as Tree};
+ghost use Rattle.kv_syn.specs.declared.scripts.Side.TheVariants.{L, R};
+ghost use Rattle.kv_prop.specs.Premises.{at_place, elsewhere, is_left_place, or_shape, as_equal, changed, one, nothing, Gives};
+
+use crate::drafts::{Draft, New, one};
+use crate::places::at;
+use crate::replacing::stays;
+use kv_sig::StepError;
+use kv_syn::{Form, List, Plain, Sequent, Side, Term};
+use std::alloc::Global;
+
+/// `refl i`: an equation on the right has equal sides.
+pub(crate) fn reflexive(
+    alloc: Global,
+    sequent: &Sequent,
+    place: u32,
+) -> Result<List<Sequent>, StepError>
+    ensures { Gives (map plain_sequent) result (at_place R place (plain_sequent sequent.now) (λ f. as_equal f (λ t u. or_shape (term_eq t u) nothing))) }
+{
+    let Form::Equal(first, second) = at(sequent, Side::R, place)? else {
+        return Err(StepError::Shape);
+    };
+    if are_same_terms(first, second) {
+        Ok(List::new(alloc))
+    } else {
+        Err(StepError::Shape)
+    }
+}
+
+fn are_same_terms(one: &Term, two: &Term) -> bool
+    ensures { result ≡ term_eq (plain_term one.now) (plain_term two.now) }
+{
+    one.same(two)
+}
+
+/// `swap S i`: an equation with its sides exchanged, in its place.
+pub(crate) fn swap(
+    alloc: Global,
+    sequent: &Sequent,
+    side: Side,
+    place: u32,
+) -> Result<List<Sequent>, StepError>
+    ensures { Gives (map plain_sequent) result (at_place side place (plain_sequent sequent.now) (λ f. as_equal f (λ t u. one (in_place side place (Tree.Equal u t) (plain_sequent sequent.now))))) }
+{
+    let Form::Equal(first, second) = at(sequent, side, place)? else {
+        return Err(StepError::Shape);
+    };
+    let new = New::Equal(second, first);
+    one(alloc, &Draft::in_place(sequent, side, place, new))
+}
+
+/// `subst i S j`: by an equation on the left, its second side comes for its first one in another formula.
+pub(crate) fn replace(
+    alloc: Global,
+    sequent: &Sequent,
+    left: u32,
+    side: Side,
+    place: u32,
+) -> Result<List<Sequent>, StepError>
+    ensures { Gives (map plain_sequent) result (elsewhere left side place (at_place L left (plain_sequent sequent.now) (λ e. at_place side place (plain_sequent sequent.now) (λ f. as_equal e (λ t u. changed t u f (λ g. one (in_place side place g (plain_sequent sequent.now)))))))) }
+{
+    if is_left_place(left, side, place) {
+        return Err(StepError::Position);
+    }
+    let equation = at(sequent, Side::L, left)?;
+    let form = at(sequent, side, place)?;
+    let Form::Equal(from, to) = equation else {
+        return Err(StepError::Shape);
+    };
+    if stays(from, to, form)? {
+        return Err(StepError::Shape);
+    }
+    let new = New::Replaced(from, to, form);
+    one(alloc, &Draft::in_place(sequent, side, place, new))
+}
+
+/// Whether the place of a side is that one on the left.
+fn is_left_place(left: u32, side: Side, place: u32) -> bool
+    ensures { result ≡ is_left_place left side place }
+{
+    match side {
+        Side::L => left == place,
+        Side::R => false,
+    }
+}
