@@ -24,3 +24,4 @@ pub mod Told
 pub mod Seen
 pub mod Keys
 pub mod Pushed
+pub mod Taken

@@ -31,20 +31,19 @@ below_none : (v : View) (path : List ℕ) (i : ℕ) (children : Scripts) → eve
 below_none v path i Scripts.none = refl
 below_none v path i (Scripts.more k rest) = refl
 
-module _ (v : View) (path : List ℕ) (ps : List Sequent) (ks : List Script) (i : ℕ) (p : Sequent) (here : i < length ps) (is : p ≡ get_or ps i p) where
+module _ (v : View) (path : List ℕ) (ps : List Sequent) (ks : List Script) (i : ℕ) (p : Sequent) (first : drop i ps ≡ p ∷ drop (i + 1) ps) where
   -- a premise without a child is first in the rest
   pub rest_goal : length ks ≤ i → rest_from v path ps ks i ≡ Event.open_goal (child_path path i) (plain_sequent p) ∷ rest_from v path ps ks (i + 1)
   rest_goal past =
-      let d1 = drop_here ps i p here is in
       let d2 = drop_of_length-le ks {i = i} past in
       let d3 = drop_of_length-le ks {i = i + 1} (omega arith) in
-      ap₂ (λ x y. events_below v path i (map plain_sequent x) (plain_scripts y)) d1 d2
+      ap₂ (λ x y. events_below v path i (map plain_sequent x) (plain_scripts y)) first d2
       ∙ sym (ap (λ y. Event.open_goal (child_path path i) (plain_sequent p) ∷ events_below v path (i + 1) (map plain_sequent (drop (i + 1) ps)) (plain_scripts y)) d3)
 
   -- a premise with a child is first in the rest
   pub rest_child : (k : Script) → i < length ks → k ≡ get_or ks i k → rest_from v path ps ks i ≡ events v (plain_sequent p) (child_path path i) (plain_script k) ++ rest_from v path ps ks (i + 1)
   rest_child k there is' =
-      ap₂ (λ x y. events_below v path i (map plain_sequent x) (plain_scripts y)) (drop_here ps i p here is) (drop_here ks i k there is')
+      ap₂ (λ x y. events_below v path i (map plain_sequent x) (plain_scripts y)) first (drop_here ks i k there is')
 
 -- one place on
 pub sofar_more : (v : View) (path : List ℕ) (ps : List Sequent) (ks : List Script) (i : ℕ) (a b c : Tally) (s0 s1 s2 : ℕ) (es : List Event) → rest_from v path ps ks i ≡ es ++ rest_from v path ps ks (i + 1) → Sofar v path ps ks i a b s0 s1 → Told b c es → s2 ≡ s1 + visits es → Sofar v path ps ks (i + 1) a c s0 s2

@@ -1,19 +1,21 @@
 // Replay.
 
-ghost use Rattle.std.specs.Prelude.{◌≡◌, ◌+◌, ◌≤◌, true, map, IfOk, OnOk};
+ghost use Rattle.std.specs.Prelude.{◌≡◌, ◌+◌, ◌<◌, ◌≤◌, true, ◌∷◌, drop, length, map, IfErr, IfOk, OnOk};
+ghost use Rattle.kv_script.specs.Answers.{answer};
 ghost use Rattle.kv_script.specs.Derives.{Derives};
 ghost use Rattle.kv_script.specs.Events.{outcome_of, events, events_below, replay_events, visits};
-ghost use Rattle.kv_script.specs.Tallies.{Told};
+ghost use Rattle.kv_script.specs.Tallies.{Told, plain_answer};
 ghost use Rattle.kv_sig.specs.Views.{view_of};
 ghost use Rattle.kv_syn.specs.Bridge.{plain_form, plain_sequent};
-ghost use Rattle.kv_syn.specs.Rows.{has_fault_rows};
-ghost use Rattle.kv_syn.specs.ScriptBridge.{plain_script, plain_scripts};
+ghost use Rattle.kv_syn.specs.Rows.{has_fault_rows, has_reason_row};
+ghost use Rattle.kv_syn.specs.ScriptBridge.{plain_script, plain_scripts, plain_step};
 
 use crate::answers::answer;
 use crate::tally::Tally;
 use kv_sig::Env;
-use kv_syn::{Form, List, NoMemory, Outcome, Path, Plain, Script, Sequent, Steps};
+use kv_syn::{Form, List, NoMemory, Outcome, Path, Plain, Reason, Script, Sequent, Step, Steps};
 use std::alloc::Global;
+use std::mem;
 use std::sync::ledger::Ledger;
 
 /// Replays a script at the sequent with the goal alone on the right, and counts each step that is visited.
@@ -47,8 +49,22 @@ pub fn replay<L: Ledger>(
         uses: List::new(alloc),
         looks: List::new(alloc),
     };
-    replay_at(alloc, env, &root, script, &mut path, &mut tally, steps)?;
+    replay_at(alloc, env, root, script, &mut path, &mut tally, steps)?;
     tally.outcome(alloc)
+}
+
+/// The answer to a step at a sequent that isn't needed behind it.
+fn answer_at(
+    alloc: Global,
+    env: &Env,
+    sequent: Sequent,
+    step: &Step,
+    children: &[Script],
+) -> Result<Result<List<Sequent>, Reason>, NoMemory>
+    ensures rows { IfOk result (λ a. IfErr a (λ reason. has_reason_row reason ≡ true)) }
+    ensures answer { IfOk result (λ a. plain_answer a ≡ answer (view_of env.now.flat.now) (plain_sequent sequent) (plain_step step.now) (plain_scripts children.now)) }
+{
+    answer(alloc, env, &sequent, step, children)
 }
 
 /// Replays a script at a sequent.
@@ -56,7 +72,7 @@ pub fn replay<L: Ledger>(
 fn replay_at<L: Ledger>(
     alloc: Global,
     env: &Env,
-    sequent: &Sequent,
+    sequent: Sequent,
     script: &Script,
     path: &mut Path,
     tally: &mut Tally,
@@ -65,10 +81,11 @@ fn replay_at<L: Ledger>(
     requires { has_fault_rows tally.old.broken ≡ true }
     ensures rows { OnOk result (has_fault_rows tally.new.broken ≡ true) }
     ensures path { OnOk result (path.new ≡ path.old) }
-    ensures told { OnOk result (Told tally.old tally.new (events (view_of env.now.flat.now) (plain_sequent sequent.now) path.old (plain_script script.now))) }
-    ensures steps { OnOk result (steps.new ≡ steps.old + visits (events (view_of env.now.flat.now) (plain_sequent sequent.now) path.old (plain_script script.now))) }
-    ensures at_most { steps.new ≤ steps.old + visits (events (view_of env.now.flat.now) (plain_sequent sequent.now) path.old (plain_script script.now)) }
+    ensures told { OnOk result (Told tally.old tally.new (events (view_of env.now.flat.now) (plain_sequent sequent) path.old (plain_script script.now))) }
+    ensures steps { OnOk result (steps.new ≡ steps.old + visits (events (view_of env.now.flat.now) (plain_sequent sequent) path.old (plain_script script.now))) }
+    ensures at_most { steps.new ≤ steps.old + visits (events (view_of env.now.flat.now) (plain_sequent sequent) path.old (plain_script script.now)) }
 {
+    // (the proof reads off here that the count fits its type)
     let _goals = tally.goals;
     match script {
         Script::Hole => {
@@ -78,31 +95,37 @@ fn replay_at<L: Ledger>(
         Script::Node(step, children) => {
             steps.tick();
             tally.ask(alloc, &step.text)?;
-            match answer(alloc, env, sequent, step, children.items())? {
+            match answer_at(alloc, env, sequent, step, children.items())? {
                 Err(reason) => tally.refuse(alloc, path, step.rule, reason),
                 Ok(premises) => {
                     tally.use_label(alloc, &step.text)?;
-                    replay_below(
-                        alloc,
-                        env,
-                        premises.items(),
-                        children.items(),
-                        path,
-                        tally,
-                        steps,
-                    )
+                    replay_below(alloc, env, premises, children.items(), path, tally, steps)
                 }
             }
         }
     }
 }
 
-/// Replays the children of a step at its premises. A premise without a child is an open goal.
+/// Takes the sequent at that place, and leaves an empty one there.
+fn taken(alloc: Global, premises: &mut List<Sequent>, place: usize) -> Sequent
+    requires { place < length premises.old }
+    ensures first { drop place premises.old ≡ result ∷ drop (place + 1) premises.new }
+    ensures length { length premises.new ≡ length premises.old }
+{
+    let mut sequent = Sequent {
+        left: List::new(alloc),
+        right: List::new(alloc),
+    };
+    mem::swap(premises.item_mut(place), &mut sequent);
+    sequent
+}
+
+/// Replays the children of a step at its premises, each of which goes with its child. A premise without a child is an open goal.
 #[cycle(replay)]
 fn replay_below<L: Ledger>(
     alloc: Global,
     env: &Env,
-    premises: &[Sequent],
+    mut premises: List<Sequent>,
     children: &[Script],
     path: &mut Path,
     tally: &mut Tally,
@@ -111,14 +134,17 @@ fn replay_below<L: Ledger>(
     requires { has_fault_rows tally.old.broken ≡ true }
     ensures rows { OnOk result (has_fault_rows tally.new.broken ≡ true) }
     ensures path { OnOk result (path.new ≡ path.old) }
-    ensures told { OnOk result (Told tally.old tally.new (events_below (view_of env.now.flat.now) path.old 0 (map plain_sequent premises.now) (plain_scripts children.now))) }
-    ensures steps { OnOk result (steps.new ≡ steps.old + visits (events_below (view_of env.now.flat.now) path.old 0 (map plain_sequent premises.now) (plain_scripts children.now))) }
-    ensures at_most { steps.new ≤ steps.old + visits (events_below (view_of env.now.flat.now) path.old 0 (map plain_sequent premises.now) (plain_scripts children.now)) }
+    ensures told { OnOk result (Told tally.old tally.new (events_below (view_of env.now.flat.now) path.old 0 (map plain_sequent premises) (plain_scripts children.now))) }
+    ensures steps { OnOk result (steps.new ≡ steps.old + visits (events_below (view_of env.now.flat.now) path.old 0 (map plain_sequent premises) (plain_scripts children.now))) }
+    ensures at_most { steps.new ≤ steps.old + visits (events_below (view_of env.now.flat.now) path.old 0 (map plain_sequent premises) (plain_scripts children.now)) }
 {
+    // (the proof reads off here that the count fits its type)
     let _goals = tally.goals;
     let mut place = 0u32;
-    for (i, premise) in premises.iter().enumerate() {
+    let count = premises.items().len();
+    for i in 0..count {
         place = place.saturating_add(1);
+        let premise = taken(alloc, &mut premises, i);
         match children.get(i) {
             None => tally.goal(),
             Some(child) => {
