@@ -48,12 +48,12 @@ def many_units(count):
     return text, status([proved(name, 10) for name in names])
 
 
-def conjunction(leaves):
-    """The formula that joins so many `a` by `and`, in halves; it has 2 * leaves - 1 nodes."""
+def conjunction(leaves, leaf="a"):
+    """The formula that joins so many leaves by `and`, in halves; it has 2 * leaves - 1 nodes."""
     if leaves == 1:
-        return "a"
+        return leaf
     half = leaves // 2
-    return "(" + conjunction(leaves - half) + " and " + conjunction(half) + ")"
+    return "(" + conjunction(leaves - half, leaf) + " and " + conjunction(half, leaf) + ")"
 
 
 def one_formula(nodes):

@@ -5,8 +5,9 @@
 
 The first part runs `theorem` commands on a project of 500 units and tells, for growing numbers of them, the time of a
 command, that time as a share of one `check` of the project that they lead to, and the peak memory. The second part runs
-one `status` on a project of 5,000 theorems, and tells the share of it in the run. Each time is the least of several.
-Ends with status 1 where an answer isn't the one that was wanted.
+one `status` on a project of 5,000 theorems, and tells the share of it in the run. The third one changes a proof there,
+and tells the time of one such edit. Each time is the least of several. Ends with status 1 where an answer isn't the one
+that was wanted.
 """
 import sys
 
@@ -15,6 +16,7 @@ from check import many_units
 
 UNITS = 500
 THEOREMS = [250, 500, 1000]
+EDITS = 20
 
 
 def units(theorems):
@@ -65,6 +67,20 @@ def long_status(words):
     return True
 
 
+def late_edits(words):
+    """The line of the third part, and whether all answers were right."""
+    text, _ = many_units(5000)
+    empty, _ = least(measure.calls(words.kivd, words.runs, "run", text), "")
+    seconds, peak = least(
+        measure.calls(words.kivd, words.runs, "run", text, "proof U0 t0 = open\n.\n" * EDITS),
+        "ok valid 4999 open 1 invalid 0\n.\n" * EDITS,
+    )
+    if seconds is None or empty is None:
+        return False
+    print(f"| {EDITS} | {(seconds - empty) / EDITS * 1000:.1f} | {measure.memory(peak)} |")
+    return True
+
+
 def main():
     words = measure.words("What kivd run takes for each command.").parse_args()
     print(measure.machine())
@@ -74,6 +90,9 @@ def main():
     print("| Bytes of a `status` of 5,000 rows | Time of the run, ms | Share of the status | Peak memory, MB |")
     print("|---|---|---|---|")
     right = long_status(words) and right
+    print("| Edits of a proof beside 4,999 others | Time of one, ms | Peak memory, MB |")
+    print("|---|---|---|")
+    right = late_edits(words) and right
     if not right:
         print("not the wanted answer", file=sys.stderr)
     sys.exit(0 if right else 1)

@@ -16,7 +16,7 @@ use crate::errors::TypeError;
 use crate::names::variable;
 use crate::terms::{count, typed_args};
 use kv_sig::{Sig, same_name};
-use kv_syn::{Callee, List, Name, Plain, Profile, Prog, RawTerm, Ref};
+use kv_syn::{Callee, List, Name, Plain, Profile, Prog, RawTerm, Ref, Shared};
 use std::alloc::Global;
 
 /// The variable of that name, with its sort.
@@ -111,10 +111,11 @@ fn call_of(
                 });
             }
             let typed = typed_args(alloc, sig, context, values.items(), args)?;
+            let places = typed_refs(alloc, context, refs.items(), names)?;
             Ok(Prog::Call(
                 callee,
-                typed,
-                typed_refs(alloc, context, refs.items(), names)?,
+                Shared::new(alloc, typed)?,
+                Shared::new(alloc, places)?,
             ))
         }
         _ => Err(TypeError::Unknown {

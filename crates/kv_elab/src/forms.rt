@@ -20,9 +20,7 @@ use crate::names::variable;
 use crate::programs::has_program;
 use crate::terms::{count, elaborate_term, term_of_sort, typed_args};
 use kv_sig::Sig;
-use kv_syn::{
-    Boxed, Form, Name, NoMemory, Plain, Profile, Prog, RawForm, RawProg, RawTerm, Var, boxed,
-};
+use kv_syn::{Form, Name, NoMemory, Plain, Profile, Prog, RawForm, RawProg, RawTerm, Shared, Var};
 use std::alloc::Global;
 
 /// The typed formula, or the first fault from left to right.
@@ -87,10 +85,8 @@ fn typed_atom(
                         name: name.copy(alloc)?,
                     });
                 }
-                Ok(Form::Atom(
-                    name.copy(alloc)?,
-                    typed_args(alloc, sig, context, wants.items(), args)?,
-                ))
+                let typed = typed_args(alloc, sig, context, wants.items(), args)?;
+                Ok(Form::Atom(name.copy(alloc)?, Shared::new(alloc, typed)?))
             }
             _ => Err(TypeError::Unknown {
                 name: name.copy(alloc)?,
@@ -166,22 +162,22 @@ fn typed_form(
         RawForm::False => Ok(Form::False),
         RawForm::Atom(p, ts) => typed_atom(alloc, sig, scope, p, ts.items()),
         RawForm::Equal(s, t) => typed_equation(alloc, sig, scope, s, t),
-        RawForm::Not(f) => Ok(Form::Not(boxed_form(alloc, sig, scope, f)?)),
+        RawForm::Not(f) => Ok(Form::Not(shared_form(alloc, sig, scope, f)?)),
         RawForm::And(f, g) => Ok(Form::And(
-            boxed_form(alloc, sig, scope, f)?,
-            boxed_form(alloc, sig, scope, g)?,
+            shared_form(alloc, sig, scope, f)?,
+            shared_form(alloc, sig, scope, g)?,
         )),
         RawForm::Or(f, g) => Ok(Form::Or(
-            boxed_form(alloc, sig, scope, f)?,
-            boxed_form(alloc, sig, scope, g)?,
+            shared_form(alloc, sig, scope, f)?,
+            shared_form(alloc, sig, scope, g)?,
         )),
         RawForm::Imp(f, g) => Ok(Form::Imp(
-            boxed_form(alloc, sig, scope, f)?,
-            boxed_form(alloc, sig, scope, g)?,
+            shared_form(alloc, sig, scope, f)?,
+            shared_form(alloc, sig, scope, g)?,
         )),
         RawForm::Iff(f, g) => Ok(Form::Iff(
-            boxed_form(alloc, sig, scope, f)?,
-            boxed_form(alloc, sig, scope, g)?,
+            shared_form(alloc, sig, scope, f)?,
+            shared_form(alloc, sig, scope, g)?,
         )),
         RawForm::All(x, f) => Ok(Form::All(
             typed_sort(alloc, sig, &x.sort)?,
@@ -192,27 +188,27 @@ fn typed_form(
             form_under(alloc, sig, scope, x, f)?,
         )),
         RawForm::After(a, f) => Ok(Form::After(
-            boxed_prog(alloc, sig, scope, a)?,
-            boxed_form(alloc, sig, scope, f)?,
+            shared_prog(alloc, sig, scope, a)?,
+            shared_form(alloc, sig, scope, f)?,
         )),
         RawForm::Can(a, f) => Ok(Form::Can(
-            boxed_prog(alloc, sig, scope, a)?,
-            boxed_form(alloc, sig, scope, f)?,
+            shared_prog(alloc, sig, scope, a)?,
+            shared_form(alloc, sig, scope, f)?,
         )),
     }
 }
 
 #[cycle(typed_form)]
-fn boxed_form(
+fn shared_form(
     alloc: Global,
     sig: &Sig,
     scope: &mut Context,
-    raw: &Boxed<RawForm>,
-) -> Result<Boxed<Form>, TypeError>
+    raw: &Shared<RawForm>,
+) -> Result<Shared<Form>, TypeError>
     ensures value { Gives plain_form result (elab_form sig.now scope.old (raw_form raw.now)) }
     ensures kept { OnOk result (scope.new ≡ scope.old) }
 {
-    Ok(boxed(alloc, typed_form(alloc, sig, scope, raw.get())?)?)
+    Ok(Shared::new(alloc, typed_form(alloc, sig, scope, raw.get())?)?)
 }
 
 #[cycle(typed_form)]
@@ -221,15 +217,15 @@ fn form_under(
     sig: &Sig,
     scope: &mut Context,
     binder: &Var,
-    raw: &Boxed<RawForm>,
-) -> Result<Boxed<Form>, TypeError>
+    raw: &Shared<RawForm>,
+) -> Result<Shared<Form>, TypeError>
     ensures value { Gives plain_form result (elab_form sig.now (under scope.old binder.now) (raw_form raw.now)) }
     ensures kept { OnOk result (scope.new ≡ scope.old) }
 {
     enter(scope, binder.copy(alloc)?)?;
     let typed = typed_form(alloc, sig, scope, raw.get())?;
     leave(scope);
-    Ok(boxed(alloc, typed)?)
+    Ok(Shared::new(alloc, typed)?)
 }
 
 #[cycle(typed_form)]
@@ -237,15 +233,15 @@ fn condition(
     alloc: Global,
     sig: &Sig,
     scope: &mut Context,
-    raw: &Boxed<RawForm>,
-) -> Result<Boxed<Form>, TypeError>
+    raw: &Shared<RawForm>,
+) -> Result<Shared<Form>, TypeError>
     ensures value { Gives plain_form result (elab_condition (raw_form raw.now) (elab_form sig.now scope.old (raw_form raw.now))) }
     ensures kept { OnOk result (scope.new ≡ scope.old) }
 {
     if has_program(raw.get()) {
         return Err(TypeError::Program);
     }
-    boxed_form(alloc, sig, scope, raw)
+    shared_form(alloc, sig, scope, raw)
 }
 
 #[cycle(typed_form)]
@@ -263,17 +259,17 @@ fn typed_prog(
         RawProg::Abort => Ok(Prog::Abort),
         RawProg::Assign(x, t) => typed_assignment(alloc, sig, scope, x, t),
         RawProg::Seq(a, b) => Ok(Prog::Seq(
-            boxed_prog(alloc, sig, scope, a)?,
-            boxed_prog(alloc, sig, scope, b)?,
+            shared_prog(alloc, sig, scope, a)?,
+            shared_prog(alloc, sig, scope, b)?,
         )),
         RawProg::If(e, a, b) => Ok(Prog::If(
             condition(alloc, sig, scope, e)?,
-            boxed_prog(alloc, sig, scope, a)?,
-            boxed_prog(alloc, sig, scope, b)?,
+            shared_prog(alloc, sig, scope, a)?,
+            shared_prog(alloc, sig, scope, b)?,
         )),
         RawProg::While(e, a) => Ok(Prog::While(
             condition(alloc, sig, scope, e)?,
-            boxed_prog(alloc, sig, scope, a)?,
+            shared_prog(alloc, sig, scope, a)?,
         )),
         RawProg::Local(x, t, a) => {
             let sort = typed_sort(alloc, sig, &x.sort)?;
@@ -282,23 +278,23 @@ fn typed_prog(
         }
         RawProg::Call(p, ts, rs) => typed_call(alloc, sig, scope, p, ts.items(), rs.items()),
         RawProg::Choice(a, b) => Ok(Prog::Choice(
-            boxed_prog(alloc, sig, scope, a)?,
-            boxed_prog(alloc, sig, scope, b)?,
+            shared_prog(alloc, sig, scope, a)?,
+            shared_prog(alloc, sig, scope, b)?,
         )),
     }
 }
 
 #[cycle(typed_form)]
-fn boxed_prog(
+fn shared_prog(
     alloc: Global,
     sig: &Sig,
     scope: &mut Context,
-    raw: &Boxed<RawProg>,
-) -> Result<Boxed<Prog>, TypeError>
+    raw: &Shared<RawProg>,
+) -> Result<Shared<Prog>, TypeError>
     ensures value { Gives plain_prog result (elab_prog sig.now scope.old (raw_prog raw.now)) }
     ensures kept { OnOk result (scope.new ≡ scope.old) }
 {
-    Ok(boxed(alloc, typed_prog(alloc, sig, scope, raw.get())?)?)
+    Ok(Shared::new(alloc, typed_prog(alloc, sig, scope, raw.get())?)?)
 }
 
 #[cycle(typed_form)]
@@ -307,13 +303,13 @@ fn prog_under(
     sig: &Sig,
     scope: &mut Context,
     binder: &Var,
-    raw: &Boxed<RawProg>,
-) -> Result<Boxed<Prog>, TypeError>
+    raw: &Shared<RawProg>,
+) -> Result<Shared<Prog>, TypeError>
     ensures value { Gives plain_prog result (elab_prog sig.now (under scope.old binder.now) (raw_prog raw.now)) }
     ensures kept { OnOk result (scope.new ≡ scope.old) }
 {
     enter(scope, binder.copy(alloc)?)?;
     let typed = typed_prog(alloc, sig, scope, raw.get())?;
     leave(scope);
-    Ok(boxed(alloc, typed)?)
+    Ok(Shared::new(alloc, typed)?)
 }

@@ -14,6 +14,3 @@ pub use errors::TypeError;
 pub use forms::{elaborate, elaborate_prog};
 pub use programs::has_program;
 pub use terms::elaborate_term;
-
-#[cfg(test)]
-mod tests;

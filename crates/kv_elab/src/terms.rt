@@ -12,7 +12,7 @@ use crate::contexts::Context;
 use crate::errors::TypeError;
 use crate::names::variable;
 use kv_sig::{Sig, same_name};
-use kv_syn::{List, Name, Plain, Profile, RawTerm, Term};
+use kv_syn::{List, Name, Plain, Profile, RawTerm, Shared, Term};
 use std::alloc::Global;
 
 /// The typed term with its sort, or the first fault.
@@ -69,7 +69,10 @@ fn typed_term(
                         });
                     }
                     let typed = typed_args(alloc, sig, context, wants.items(), args.items())?;
-                    Ok((Term::App(name.copy(alloc)?, typed), result.copy(alloc)?))
+                    Ok((
+                        Term::App(name.copy(alloc)?, Shared::new(alloc, typed)?),
+                        result.copy(alloc)?,
+                    ))
                 }
                 _ => Err(TypeError::Unknown {
                     name: name.copy(alloc)?,

@@ -9,6 +9,3 @@ mod items;
 pub use faults::FlatError;
 pub use flats::{Checked, FlatForm, FlatRow, Flats, Flattened, Judged};
 pub use flattening::flatten;
-
-#[cfg(test)]
-mod tests;

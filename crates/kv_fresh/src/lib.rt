@@ -9,6 +9,3 @@ mod rows;
 
 pub use checking::check;
 pub use laws::backing;
-
-#[cfg(test)]
-mod tests;

@@ -19,8 +19,3 @@ pub use mem_store::MemStore;
 pub use outside::{FILE_LIMIT, Failed, LoadError, Sink, Source, Store};
 pub use reading::{COMMAND_LIMIT, INPUT_LIMIT, READ_SIZE};
 pub use standard::{FileStore, StdSink, StdSource};
-
-#[cfg(test)]
-mod line_tests;
-#[cfg(test)]
-mod tests;

@@ -9,6 +9,3 @@ mod token;
 
 pub use lexer::tokens;
 pub use token::{LexError, Token, TokenKind};
-
-#[cfg(test)]
-mod tests;

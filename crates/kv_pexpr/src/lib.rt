@@ -8,8 +8,6 @@ mod leaves;
 mod levels;
 mod readers;
 mod terms;
-#[cfg(test)]
-mod tests;
 mod tokens;
 mod trees;
 

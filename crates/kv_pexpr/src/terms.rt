@@ -88,16 +88,22 @@ pub fn term_within(
     }
     let (name, rest) = eat_name(alloc, tokens)?;
     match arguments(alloc, rest, brackets, height - 1) {
-        Ok(args) => Ok(Found {
-            tree: application(name, args.tree),
-            height: args.height + 1,
-            rest: args.rest,
-        }),
+        Ok(args) => {
+            let tree = application(alloc, name, args.tree)?;
+            Ok(Found {
+                tree,
+                height: args.height + 1,
+                rest: args.rest,
+            })
+        }
         Err(ReadError::NoMemory) => Err(ReadError::NoMemory),
-        Err(ReadError::Syntax) => Ok(Found {
-            tree: application(name, List::new(alloc)),
-            height: 1,
-            rest,
-        }),
+        Err(ReadError::Syntax) => {
+            let tree = application(alloc, name, List::new(alloc))?;
+            Ok(Found {
+                tree,
+                height: 1,
+                rest,
+            })
+        }
     }
 }

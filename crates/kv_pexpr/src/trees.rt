@@ -8,7 +8,7 @@ ghost use Rattle.kv_pexpr.specs.Gives.{joined, quantified};
 ghost use Rattle.kv_pexpr.specs.Parse as spec;
 
 use crate::levels::{Operator, Quantifier};
-use kv_syn::{List, Name, NoMemory, RawForm, RawTerm, Var, boxed};
+use kv_syn::{List, Name, NoMemory, RawForm, RawTerm, Shared, Var};
 use std::alloc::Global;
 
 /// The two with the operator between them.
@@ -21,8 +21,8 @@ pub fn join(
     ensures made { IfOk result (λ form. raw_form form ≡ joined operator (raw_form left) (raw_form right)) }
     ensures high { IfOk result (λ form. raw_form_depth (raw_form form) ≡ 1 + max (raw_form_depth (raw_form left)) (raw_form_depth (raw_form right))) }
 {
-    let left = boxed(alloc, left)?;
-    let right = boxed(alloc, right)?;
+    let left = Shared::new(alloc, left)?;
+    let right = Shared::new(alloc, right)?;
     match operator {
         Operator::And => Ok(RawForm::And(left, right)),
         Operator::Or => Ok(RawForm::Or(left, right)),
@@ -41,7 +41,7 @@ pub fn quantify(
     ensures made { IfOk result (λ form. raw_form form ≡ quantified quantifier var (raw_form body)) }
     ensures high { IfOk result (λ form. raw_form_depth (raw_form form) ≡ 1 + raw_form_depth (raw_form body)) }
 {
-    let body = boxed(alloc, body)?;
+    let body = Shared::new(alloc, body)?;
     match quantifier {
         Quantifier::All => Ok(RawForm::All(var, body)),
         Quantifier::Ex => Ok(RawForm::Ex(var, body)),
@@ -52,15 +52,15 @@ pub fn quantify(
 pub fn negation(alloc: Global, form: RawForm) -> Result<RawForm, NoMemory>
     ensures { IfOk result (λ negated. raw_form negated ≡ RawTree.Not (raw_form form)) }
 {
-    Ok(RawForm::Not(boxed(alloc, form)?))
+    Ok(RawForm::Not(Shared::new(alloc, form)?))
 }
 
 /// The symbol with its arguments.
-pub fn application(name: Name, args: List<RawTerm>) -> RawTerm
-    ensures made { raw_term result ≡ TermTree.App name (raw_terms args) }
-    ensures high { raw_term_depth (raw_term result) ≡ 1 + raw_terms_depth (raw_terms args) }
+pub fn application(alloc: Global, name: Name, args: List<RawTerm>) -> Result<RawTerm, NoMemory>
+    ensures made { IfOk result (λ term. raw_term term ≡ TermTree.App name (raw_terms args)) }
+    ensures high { IfOk result (λ term. raw_term_depth (raw_term term) ≡ 1 + raw_terms_depth (raw_terms args)) }
 {
-    RawTerm::App(name, args)
+    Ok(RawTerm::App(name, Shared::new(alloc, args)?))
 }
 
 /// The term as an atom.

@@ -13,8 +13,3 @@ pub use projects::project_text;
 pub use scripts::script_text;
 pub use shown::{form_text, prog_text};
 pub use states::{reason_text, state_text};
-
-#[cfg(test)]
-mod shown_tests;
-#[cfg(test)]
-mod tests;

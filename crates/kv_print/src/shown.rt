@@ -10,8 +10,8 @@ ghost use Rattle.kv_print.specs.Shown.{binder_name, shown_callee, shown_form, sh
 use crate::forms::{push_form, push_prog};
 use crate::pieces::push_number;
 use kv_syn::{
-    Boxed, Bytes, Callee, Form, List, Name, NoMemory, Plain, Prog, RawForm, RawProg, RawTerm, Ref,
-    Term, Var, boxed,
+    Bytes, Callee, Form, List, Name, NoMemory, Plain, Prog, RawForm, RawProg, RawTerm, Ref, Shared,
+    Term, Var,
 };
 use std::alloc::Global;
 
@@ -100,12 +100,23 @@ fn term_shown(alloc: Global, term: &Term, around: u32) -> Result<RawTerm, NoMemo
     ensures { IfOk result (λ t. raw_term t ≡ shown_term around (plain_term term.now)) }
 {
     match term {
-        Term::Place(place) => Ok(RawTerm::App(ref_shown(alloc, place, around)?, List::new(alloc))),
-        Term::App(f, ts) => Ok(RawTerm::App(
-            f.copy(alloc)?,
-            terms_shown(alloc, ts.items(), around)?,
+        Term::Place(place) => Ok(RawTerm::App(
+            ref_shown(alloc, place, around)?,
+            Shared::new(alloc, List::new(alloc))?,
         )),
+        Term::App(f, ts) => Ok(RawTerm::App(f.copy(alloc)?, shared_terms(alloc, ts, around)?)),
     }
+}
+
+#[cycle(term_shown)]
+fn shared_terms(
+    alloc: Global,
+    terms: &Shared<List<Term>>,
+    around: u32,
+) -> Result<Shared<List<RawTerm>>, NoMemory>
+    ensures { IfOk result (λ ts. raw_terms ts ≡ shown_terms around (plain_terms terms.now)) }
+{
+    Shared::new(alloc, terms_shown(alloc, terms.items(), around)?)
 }
 
 #[cycle(term_shown)]
@@ -127,56 +138,53 @@ fn form_shown(alloc: Global, form: &Form, around: u32) -> Result<RawForm, NoMemo
     match form {
         Form::True => Ok(RawForm::True),
         Form::False => Ok(RawForm::False),
-        Form::Atom(p, ts) => Ok(RawForm::Atom(
-            p.copy(alloc)?,
-            terms_shown(alloc, ts.items(), around)?,
-        )),
+        Form::Atom(p, ts) => Ok(RawForm::Atom(p.copy(alloc)?, shared_terms(alloc, ts, around)?)),
         Form::Equal(s, t) => Ok(RawForm::Equal(
             term_shown(alloc, s, around)?,
             term_shown(alloc, t, around)?,
         )),
-        Form::Not(f) => Ok(RawForm::Not(boxed_form(alloc, f, around)?)),
+        Form::Not(f) => Ok(RawForm::Not(shared_form(alloc, f, around)?)),
         Form::And(f, g) => Ok(RawForm::And(
-            boxed_form(alloc, f, around)?,
-            boxed_form(alloc, g, around)?,
+            shared_form(alloc, f, around)?,
+            shared_form(alloc, g, around)?,
         )),
         Form::Or(f, g) => Ok(RawForm::Or(
-            boxed_form(alloc, f, around)?,
-            boxed_form(alloc, g, around)?,
+            shared_form(alloc, f, around)?,
+            shared_form(alloc, g, around)?,
         )),
         Form::Imp(f, g) => Ok(RawForm::Imp(
-            boxed_form(alloc, f, around)?,
-            boxed_form(alloc, g, around)?,
+            shared_form(alloc, f, around)?,
+            shared_form(alloc, g, around)?,
         )),
         Form::Iff(f, g) => Ok(RawForm::Iff(
-            boxed_form(alloc, f, around)?,
-            boxed_form(alloc, g, around)?,
+            shared_form(alloc, f, around)?,
+            shared_form(alloc, g, around)?,
         )),
         Form::All(s, f) => Ok(RawForm::All(
             var_shown(alloc, s, around)?,
-            boxed_form(alloc, f, around + 1)?,
+            shared_form(alloc, f, around + 1)?,
         )),
         Form::Ex(s, f) => Ok(RawForm::Ex(
             var_shown(alloc, s, around)?,
-            boxed_form(alloc, f, around + 1)?,
+            shared_form(alloc, f, around + 1)?,
         )),
         Form::After(a, f) => Ok(RawForm::After(
-            boxed_prog(alloc, a, around)?,
-            boxed_form(alloc, f, around)?,
+            shared_prog(alloc, a, around)?,
+            shared_form(alloc, f, around)?,
         )),
         Form::Can(a, f) => Ok(RawForm::Can(
-            boxed_prog(alloc, a, around)?,
-            boxed_form(alloc, f, around)?,
+            shared_prog(alloc, a, around)?,
+            shared_form(alloc, f, around)?,
         )),
     }
 }
 
 #[cycle(form_shown)]
-fn boxed_form(alloc: Global, form: &Boxed<Form>, around: u32) -> Result<Boxed<RawForm>, NoMemory>
+fn shared_form(alloc: Global, form: &Shared<Form>, around: u32) -> Result<Shared<RawForm>, NoMemory>
     requires { form_binders (plain_form form.now) + around < 2 ^ 32 }
     ensures { IfOk result (λ f. raw_form f ≡ shown_form around (plain_form form.now)) }
 {
-    boxed(alloc, form_shown(alloc, form.get(), around)?)
+    Shared::new(alloc, form_shown(alloc, form.get(), around)?)
 }
 
 #[cycle(form_shown)]
@@ -192,39 +200,39 @@ fn prog_shown(alloc: Global, prog: &Prog, around: u32) -> Result<RawProg, NoMemo
             term_shown(alloc, t, around)?,
         )),
         Prog::Seq(a, b) => Ok(RawProg::Seq(
-            boxed_prog(alloc, a, around)?,
-            boxed_prog(alloc, b, around)?,
+            shared_prog(alloc, a, around)?,
+            shared_prog(alloc, b, around)?,
         )),
         Prog::If(e, a, b) => Ok(RawProg::If(
-            boxed_form(alloc, e, around)?,
-            boxed_prog(alloc, a, around)?,
-            boxed_prog(alloc, b, around)?,
+            shared_form(alloc, e, around)?,
+            shared_prog(alloc, a, around)?,
+            shared_prog(alloc, b, around)?,
         )),
         Prog::While(e, a) => Ok(RawProg::While(
-            boxed_form(alloc, e, around)?,
-            boxed_prog(alloc, a, around)?,
+            shared_form(alloc, e, around)?,
+            shared_prog(alloc, a, around)?,
         )),
         Prog::Local(s, t, a) => Ok(RawProg::Local(
             var_shown(alloc, s, around)?,
             term_shown(alloc, t, around)?,
-            boxed_prog(alloc, a, around + 1)?,
+            shared_prog(alloc, a, around + 1)?,
         )),
         Prog::Call(p, ts, rs) => Ok(RawProg::Call(
             callee_shown(alloc, p)?,
-            terms_shown(alloc, ts.items(), around)?,
-            refs_shown(alloc, rs.items(), around)?,
+            shared_terms(alloc, ts, around)?,
+            Shared::new(alloc, refs_shown(alloc, rs.items(), around)?)?,
         )),
         Prog::Choice(a, b) => Ok(RawProg::Choice(
-            boxed_prog(alloc, a, around)?,
-            boxed_prog(alloc, b, around)?,
+            shared_prog(alloc, a, around)?,
+            shared_prog(alloc, b, around)?,
         )),
     }
 }
 
 #[cycle(form_shown)]
-fn boxed_prog(alloc: Global, prog: &Boxed<Prog>, around: u32) -> Result<Boxed<RawProg>, NoMemory>
+fn shared_prog(alloc: Global, prog: &Shared<Prog>, around: u32) -> Result<Shared<RawProg>, NoMemory>
     requires { prog_binders (plain_prog prog.now) + around < 2 ^ 32 }
     ensures { IfOk result (λ a. raw_prog a ≡ shown_prog around (plain_prog prog.now)) }
 {
-    boxed(alloc, prog_shown(alloc, prog.get(), around)?)
+    Shared::new(alloc, prog_shown(alloc, prog.get(), around)?)
 }

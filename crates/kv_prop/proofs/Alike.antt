@@ -17,7 +17,7 @@ use Rattle.kv_syn.specs.declared.trees.Ref.TheVariants.{Free, Bound}
 use Rattle.kv_table.specs.declared.rule.TheConstants as rule
 use Rattle.kv_prop.specs.Laws.{SamePremises}
 use Rattle.kv_prop.specs.Premises.{at_place, as_all, as_ex, or_fresh, or_captured, or_sort, or_label, result_of, sort_of, variable, one, premises_of, needs}
-use Rattle.kv_prop.specs.Rows.{Row, beside, number_rows, name_rows, term_rows, row_where, row_on, row_by, row_of}
+use Rattle.kv_prop.specs.Rows.{Row, beside, number_rows, name_rows, term_rows, row_where, row_on, row_by}
 
 pub if_is : {A : Type 0} (P : A → Type 0) (b : Bool) (x y : A) → P x → P y → P (if b then x else y)
 if_is P true x y p q = p

@@ -20,9 +20,9 @@ use Rattle.kv_syn.specs.declared.trees.Term.TheOpen as O
 use Rattle.kv_syn.specs.declared.trees.Term.TheVariants.{rolls-App}
 use Rattle.kv_syn.proofs.Same.{prog_same}
 use Rattle.kv_subst.specs.Changing.{Change, changed_term, changed_terms, changed_form, changed_prog}
-use Rattle.kv_prop.specs.Measures.{Measures}
+use Rattle.kv_goal.specs.Measures.{Measures}
 use Rattle.kv_prop.specs.Replacing.{replaced_form, touches}
-use Rattle.kv_prop.specs.declared.sizes.Size.{Size}
+use Rattle.kv_goal.specs.declared.sizes.Size.{Size}
 
 plain_app : (f : List ℕ) (ts : List Term) → plain_term (T.App f ts) ≡ P.Term.App f (plain_terms ts)
 plain_app f ts = ap plain_term (sym (rolls-App f ts)) ∙ T.fold-roll-Term P.Term plain_term_step (O.App f ts)

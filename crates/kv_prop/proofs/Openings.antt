@@ -1,5 +1,5 @@
 -- The place of a variable in an opening.
-use Rattle.std.proofs.Common.{◌≡◌, ◌≢◌, ℕ, ◌<◌, inl, inr, ap, ◌∙◌, arith}
+use Rattle.std.proofs.Common.{◌≡◌, ◌≢◌, ℕ, inl, inr, ap, ◌∙◌}
 use Rattle.std.proofs.lemmas.Bool.{cases_order}
 use Rattle.kv_syn.specs.Count.{term_nodes, term_depth}
 use Rattle.kv_syn.specs.Trees.{Term}

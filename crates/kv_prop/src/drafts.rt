@@ -3,28 +3,29 @@
 ghost use Rattle.std.specs.Prelude.{◌≡◌, ◌++◌, ◌≤◌, [], ◌∷◌, map, length, IfOk, OnOk};
 ghost use Rattle.kv_sig.specs.Places.{with_item, with_items, without_item};
 ghost use Rattle.kv_sig.specs.Sequents.{side_of, with_side, in_place, two_in_place, at_end, without};
-ghost use Rattle.kv_syn.specs.Bridge.{plain_form, plain_sequent};
+ghost use Rattle.kv_syn.specs.Bridge.{plain_form};
 ghost use Rattle.kv_syn.specs.Count.{form_nodes, form_depth, forms_nodes, forms_depth};
+ghost use Rattle.kv_goal.specs.Goals.{plain_goal, plain_known};
 ghost use Rattle.kv_prop.specs.Drafts.{form_of, forms_of, part_of, draft_of};
-ghost use Rattle.kv_prop.specs.Measures.{Measures};
+ghost use Rattle.kv_goal.specs.Measures.{Measures};
 ghost use Rattle.kv_prop.specs.Premises.{fits, one, two, Gives};
 
-use crate::opening::{opened, opened_size};
-use crate::places::side_of;
+use crate::limits::fits;
+use crate::opening::Opening;
 use crate::replacing::{replaced, replaced_size};
-use crate::sizes::{Size, forms_size};
+use kv_goal::{Goal, Known, Size, form_size, term_size};
 use kv_sig::StepError;
-use kv_syn::{Form, List, NoMemory, Plain, Sequent, Side, Term, boxed};
+use kv_syn::{Form, List, NoMemory, Plain, Shared, Side, Term};
 use std::alloc::Global;
 
 /// A formula that a premise has in addition to those of the sequent.
 #[derive(Clone, Copy)]
 pub(crate) enum New<'a> {
     Copied(&'a Form),
-    Imp(&'a Form, &'a Form),
+    Imp(&'a Shared<Form>, &'a Shared<Form>),
     Equal(&'a Term, &'a Term),
     /// The body of a binder at the term.
-    Opened(&'a Form, &'a Term),
+    Opened(Opening<'a>),
     /// The formula with the second term in place of the first one.
     Replaced(&'a Term, &'a Term, &'a Form),
 }
@@ -34,10 +35,10 @@ impl New<'_> {
         ensures { IfOk result (λ size. Measures size (form_nodes (form_of self.now)) (form_depth (form_of self.now))) }
     {
         match self {
-            New::Copied(form) => Ok(Size::of_form(form)),
-            New::Imp(one, two) => Ok(Size::of_form(one).and(Size::of_form(two)).below()),
-            New::Equal(one, two) => Ok(Size::of_term(one).and(Size::of_term(two)).below()),
-            New::Opened(body, at) => opened_size(body, at),
+            New::Copied(form) => Ok(form_size(form)),
+            New::Imp(one, two) => Ok(Size::over(form_size(one.get()), form_size(two.get()))),
+            New::Equal(one, two) => Ok(Size::over(term_size(one), term_size(two))),
+            New::Opened(opening) => Ok(opening.size()),
             New::Replaced(from, to, form) => replaced_size(from, to, form),
         }
     }
@@ -47,12 +48,9 @@ impl New<'_> {
     {
         match self {
             New::Copied(form) => form.copy(alloc),
-            New::Imp(one, two) => Ok(Form::Imp(
-                boxed(alloc, one.copy(alloc)?)?,
-                boxed(alloc, two.copy(alloc)?)?,
-            )),
+            New::Imp(one, two) => Ok(Form::Imp(one.share()?, two.share()?)),
             New::Equal(one, two) => Ok(Form::Equal(one.copy(alloc)?, two.copy(alloc)?)),
-            New::Opened(body, at) => opened(alloc, body, at),
+            New::Opened(opening) => opening.form(alloc),
             New::Replaced(from, to, form) => replaced(alloc, from, to, form),
         }
     }
@@ -61,16 +59,16 @@ impl New<'_> {
 /// A side of a premise: formulas of the sequent, at most two new ones, and again some of the sequent.
 #[derive(Clone, Copy)]
 pub(crate) struct Part<'a> {
-    front: &'a [Form],
+    front: &'a [Shared<Known>],
     first: Option<New<'a>>,
     second: Option<New<'a>>,
-    back: &'a [Form],
+    back: &'a [Shared<Known>],
 }
 
 impl<'a> Part<'a> {
     /// The formulas as they are.
-    pub fn whole(forms: &'a [Form]) -> Part<'a>
-        ensures { part_of result ≡ map plain_form forms.now }
+    pub fn whole(forms: &'a [Shared<Known>]) -> Part<'a>
+        ensures { part_of result ≡ map plain_known forms.now }
     {
         Part {
             front: &[],
@@ -81,8 +79,8 @@ impl<'a> Part<'a> {
     }
 
     /// The formulas with one more at the end.
-    pub fn at_end(forms: &'a [Form], new: New<'a>) -> Part<'a>
-        ensures { part_of result ≡ map plain_form forms.now ++ form_of new.entry ∷ [] }
+    pub fn at_end(forms: &'a [Shared<Known>], new: New<'a>) -> Part<'a>
+        ensures { part_of result ≡ map plain_known forms.now ++ form_of new.entry ∷ [] }
     {
         Part {
             front: forms,
@@ -93,10 +91,10 @@ impl<'a> Part<'a> {
     }
 
     /// The formulas with another one at a place.
-    pub fn in_place(forms: &'a [Form], place: u32, new: New<'a>) -> Part<'a>
+    pub fn in_place(forms: &'a [Shared<Known>], place: u32, new: New<'a>) -> Part<'a>
         requires low { 1 ≤ place }
         requires high { place ≤ length forms.now }
-        ensures { part_of result ≡ with_item (map plain_form forms.now) place (form_of new.entry) }
+        ensures { part_of result ≡ with_item (map plain_known forms.now) place (form_of new.entry) }
     {
         Part {
             front: &forms[..place as usize - 1],
@@ -107,10 +105,15 @@ impl<'a> Part<'a> {
     }
 
     /// The formulas with two others at a place.
-    pub fn two_in_place(forms: &'a [Form], place: u32, first: New<'a>, second: New<'a>) -> Part<'a>
+    pub fn two_in_place(
+        forms: &'a [Shared<Known>],
+        place: u32,
+        first: New<'a>,
+        second: New<'a>,
+    ) -> Part<'a>
         requires low { 1 ≤ place }
         requires high { place ≤ length forms.now }
-        ensures { part_of result ≡ with_items (map plain_form forms.now) place (form_of first.entry ∷ form_of second.entry ∷ []) }
+        ensures { part_of result ≡ with_items (map plain_known forms.now) place (form_of first.entry ∷ form_of second.entry ∷ []) }
     {
         Part {
             front: &forms[..place as usize - 1],
@@ -121,10 +124,10 @@ impl<'a> Part<'a> {
     }
 
     /// The formulas without the one at a place.
-    pub fn without(forms: &'a [Form], place: u32) -> Part<'a>
+    pub fn without(forms: &'a [Shared<Known>], place: u32) -> Part<'a>
         requires low { 1 ≤ place }
         requires high { place ≤ length forms.now }
-        ensures { part_of result ≡ without_item (map plain_form forms.now) place }
+        ensures { part_of result ≡ without_item (map plain_known forms.now) place }
     {
         Part {
             front: &forms[..place as usize - 1],
@@ -140,18 +143,18 @@ impl<'a> Part<'a> {
     {
         let first = new_size(&self.first)?;
         let second = new_size(&self.second)?;
-        let back = forms_size(self.back);
-        Ok(forms_size(self.front).and(first.and(second.and(back))))
+        let back = known_size(self.back);
+        Ok(known_size(self.front).and(first.and(second.and(back))))
     }
 
-    fn built(&self, alloc: Global) -> Result<List<Form>, NoMemory>
-        ensures { IfOk result (λ forms. map plain_form forms ≡ part_of self.now) }
+    fn built(&self, alloc: Global) -> Result<List<Shared<Known>>, NoMemory>
+        ensures { IfOk result (λ forms. map plain_known forms ≡ part_of self.now) }
     {
         let mut forms = List::new(alloc);
-        push_copies(alloc, &mut forms, self.front)?;
+        push_shared(&mut forms, self.front)?;
         push_new(alloc, &mut forms, &self.first)?;
         push_new(alloc, &mut forms, &self.second)?;
-        push_copies(alloc, &mut forms, self.back)?;
+        push_shared(&mut forms, self.back)?;
         Ok(forms)
     }
 }
@@ -166,23 +169,38 @@ fn new_size(new: &Option<New<'_>>) -> Result<Size, NoMemory>
     }
 }
 
-/// Adds copies of the formulas at the end.
-fn push_copies(alloc: Global, copies: &mut List<Form>, forms: &[Form]) -> Result<(), NoMemory>
-    ensures { OnOk result (copies.new ≡ copies.old ++ forms.now) }
+/// How large the formulas are together.
+fn known_size(forms: &[Shared<Known>]) -> Size
+    ensures { Measures result (forms_nodes (map plain_known forms.now)) (forms_depth (map plain_known forms.now)) }
+{
+    let mut size = Size::none();
+    for form in forms {
+        size = size.and(form.get().size());
+    }
+    size
+}
+
+/// Adds the formulas at the end.
+fn push_shared(all: &mut List<Shared<Known>>, forms: &[Shared<Known>]) -> Result<(), NoMemory>
+    ensures { OnOk result (all.new ≡ all.old ++ forms.now) }
 {
     for form in forms {
-        copies.push(form.copy(alloc)?)?;
+        all.push(form.share()?)?;
     }
     Ok(())
 }
 
 /// Adds the new formula at the end, where there is one.
-fn push_new(alloc: Global, forms: &mut List<Form>, new: &Option<New<'_>>) -> Result<(), NoMemory>
-    ensures { OnOk result (map plain_form forms.new ≡ map plain_form forms.old ++ forms_of new.now) }
+fn push_new(
+    alloc: Global,
+    forms: &mut List<Shared<Known>>,
+    new: &Option<New<'_>>,
+) -> Result<(), NoMemory>
+    ensures { OnOk result (map plain_known forms.new ≡ map plain_known forms.old ++ forms_of new.now) }
 {
     match new {
         None => Ok(()),
-        Some(form) => forms.push(form.built(alloc)?),
+        Some(form) => forms.push(Known::of(alloc, form.built(alloc)?)?),
     }
 }
 
@@ -195,61 +213,61 @@ pub(crate) struct Draft<'a> {
 
 impl<'a> Draft<'a> {
     /// The sequent with one side changed.
-    pub fn on_side(sequent: &'a Sequent, side: Side, part: Part<'a>) -> Draft<'a>
-        ensures { draft_of result ≡ with_side side (part_of part.entry) (plain_sequent sequent.now) }
+    pub fn on_side(goal: &'a Goal, side: Side, part: Part<'a>) -> Draft<'a>
+        ensures { draft_of result ≡ with_side side (part_of part.entry) (plain_goal goal.now) }
     {
         match side {
             Side::L => Draft {
                 left: part,
-                right: Part::whole(sequent.right.items()),
+                right: Part::whole(goal.right.items()),
             },
             Side::R => Draft {
-                left: Part::whole(sequent.left.items()),
+                left: Part::whole(goal.left.items()),
                 right: part,
             },
         }
     }
 
     /// The sequent with another formula in place of one.
-    pub fn in_place(sequent: &'a Sequent, side: Side, place: u32, new: New<'a>) -> Draft<'a>
+    pub fn in_place(goal: &'a Goal, side: Side, place: u32, new: New<'a>) -> Draft<'a>
         requires low { 1 ≤ place }
-        requires high { place ≤ length (side_of side (plain_sequent sequent.now)) }
-        ensures { draft_of result ≡ in_place side place (form_of new.entry) (plain_sequent sequent.now) }
+        requires high { place ≤ length (side_of side (plain_goal goal.now)) }
+        ensures { draft_of result ≡ in_place side place (form_of new.entry) (plain_goal goal.now) }
     {
-        let part = Part::in_place(side_of(sequent, side), place, new);
-        Draft::on_side(sequent, side, part)
+        let part = Part::in_place(goal.side(side), place, new);
+        Draft::on_side(goal, side, part)
     }
 
     /// The sequent with two formulas in place of one.
     pub fn two_in_place(
-        sequent: &'a Sequent,
+        goal: &'a Goal,
         side: Side,
         place: u32,
         first: New<'a>,
         second: New<'a>,
     ) -> Draft<'a>
         requires low { 1 ≤ place }
-        requires high { place ≤ length (side_of side (plain_sequent sequent.now)) }
-        ensures { draft_of result ≡ two_in_place side place (form_of first.entry) (form_of second.entry) (plain_sequent sequent.now) }
+        requires high { place ≤ length (side_of side (plain_goal goal.now)) }
+        ensures { draft_of result ≡ two_in_place side place (form_of first.entry) (form_of second.entry) (plain_goal goal.now) }
     {
-        let part = Part::two_in_place(side_of(sequent, side), place, first, second);
-        Draft::on_side(sequent, side, part)
+        let part = Part::two_in_place(goal.side(side), place, first, second);
+        Draft::on_side(goal, side, part)
     }
 
     /// The sequent with one formula more at the end of a side.
-    pub fn at_end(sequent: &'a Sequent, side: Side, new: New<'a>) -> Draft<'a>
-        ensures { draft_of result ≡ at_end side (form_of new.entry) (plain_sequent sequent.now) }
+    pub fn at_end(goal: &'a Goal, side: Side, new: New<'a>) -> Draft<'a>
+        ensures { draft_of result ≡ at_end side (form_of new.entry) (plain_goal goal.now) }
     {
-        Draft::on_side(sequent, side, Part::at_end(side_of(sequent, side), new))
+        Draft::on_side(goal, side, Part::at_end(goal.side(side), new))
     }
 
     /// The sequent without one of its formulas.
-    pub fn without(sequent: &'a Sequent, side: Side, place: u32) -> Draft<'a>
+    pub fn without(goal: &'a Goal, side: Side, place: u32) -> Draft<'a>
         requires low { 1 ≤ place }
-        requires high { place ≤ length (side_of side (plain_sequent sequent.now)) }
-        ensures { draft_of result ≡ without side place (plain_sequent sequent.now) }
+        requires high { place ≤ length (side_of side (plain_goal goal.now)) }
+        ensures { draft_of result ≡ without side place (plain_goal goal.now) }
     {
-        Draft::on_side(sequent, side, Part::without(side_of(sequent, side), place))
+        Draft::on_side(goal, side, Part::without(goal.side(side), place))
     }
 
     /// Whether the premise keeps the limits of a sequent.
@@ -258,13 +276,13 @@ impl<'a> Draft<'a> {
     {
         let left = self.left.size()?;
         let right = self.right.size()?;
-        Ok(left.and(right).fits())
+        Ok(fits(left.and(right)))
     }
 
-    fn built(&self, alloc: Global) -> Result<Sequent, NoMemory>
-        ensures { IfOk result (λ sequent. plain_sequent sequent ≡ draft_of self.now) }
+    fn built(&self, alloc: Global) -> Result<Goal, NoMemory>
+        ensures { IfOk result (λ goal. plain_goal goal ≡ draft_of self.now) }
     {
-        Ok(Sequent {
+        Ok(Goal {
             left: self.left.built(alloc)?,
             right: self.right.built(alloc)?,
         })
@@ -272,8 +290,8 @@ impl<'a> Draft<'a> {
 }
 
 /// The premise alone, where it keeps the limits.
-pub(crate) fn one(alloc: Global, premise: &Draft<'_>) -> Result<List<Sequent>, StepError>
-    ensures { Gives (map plain_sequent) result (one (draft_of premise.now)) }
+pub(crate) fn one(alloc: Global, premise: &Draft<'_>) -> Result<List<Goal>, StepError>
+    ensures { Gives (map plain_goal) result (one (draft_of premise.now)) }
 {
     if !premise.fits()? {
         return Err(StepError::Large);
@@ -288,8 +306,8 @@ pub(crate) fn two(
     alloc: Global,
     first: &Draft<'_>,
     second: &Draft<'_>,
-) -> Result<List<Sequent>, StepError>
-    ensures { Gives (map plain_sequent) result (two (draft_of first.now) (draft_of second.now)) }
+) -> Result<List<Goal>, StepError>
+    ensures { Gives (map plain_goal) result (two (draft_of first.now) (draft_of second.now)) }
 {
     if !(first.fits()? && second.fits()?) {
         return Err(StepError::Large);

@@ -6,23 +6,24 @@ ghost use Rattle.std.specs.Option.{option_copied};
 ghost use Rattle.std.specs.Str.{bytes_eq};
 ghost use Rattle.kv_sig.specs.Sequents.{at_end};
 ghost use Rattle.kv_sig.specs.Views.{formula_of, view_of};
-ghost use Rattle.kv_syn.specs.Bridge.{plain_sequent};
 ghost use Rattle.kv_syn.specs.declared.scripts.Side.TheVariants.{L};
+ghost use Rattle.kv_goal.specs.Goals.{plain_goal};
 ghost use Rattle.kv_prop.specs.Premises.{or_label, one, Gives};
 
 use crate::drafts::{Draft, New, one};
+use kv_goal::Goal;
 use kv_sig::{Env, StepError};
-use kv_syn::{Entry, Label, List, Plain, Sequent, Side};
+use kv_syn::{Entry, Label, List, Plain, Side};
 use std::alloc::Global;
 
 /// `use LABEL`: the entry's formula is assumed at the end of the left.
 pub(crate) fn use_entry(
     alloc: Global,
     env: &Env<'_>,
-    sequent: &Sequent,
+    goal: &Goal,
     label: &Label,
-) -> Result<List<Sequent>, StepError>
-    ensures { Gives (map plain_sequent) result (or_label label.now (formula_of env.now.flat.now.entries label.now) (λ f. one (at_end L f (plain_sequent sequent.now)))) }
+) -> Result<List<Goal>, StepError>
+    ensures { Gives (map plain_goal) result (or_label label.now (formula_of env.now.flat.now.entries label.now) (λ f. one (at_end L f (plain_goal goal.now)))) }
 {
     let Some(entry) = entry_of(env.flat.entries.items(), label) else {
         return Err(StepError::NoLabel {
@@ -31,7 +32,7 @@ pub(crate) fn use_entry(
     };
     one(
         alloc,
-        &Draft::at_end(sequent, Side::L, New::Copied(&entry.form)),
+        &Draft::at_end(goal, Side::L, New::Copied(&entry.form)),
     )
 }
 

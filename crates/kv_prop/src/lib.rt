@@ -13,11 +13,7 @@ mod places;
 mod quantifiers;
 mod replacing;
 mod rules;
-mod sizes;
 
 pub use laws::equal_answers_equal_premises;
 pub use limits::{SEQUENT_DEPTH, SEQUENT_NODES};
-pub use rules::apply;
-
-#[cfg(test)]
-mod tests;
+pub use rules::{apply, apply_at};

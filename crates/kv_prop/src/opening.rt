@@ -1,17 +1,17 @@
 // Bodies of binders at a term, and how large they would be.
 
-ghost use Rattle.std.specs.Prelude.{◌≡◌, ◌+◌, ◌-◌, ◌^◌, ◌<◌, ◌≤◌, IfOk, IsTrue};
+ghost use Rattle.std.specs.Prelude.{◌≡◌, ◌+◌, ◌-◌, ◌^◌, ◌<◌, ◌≤◌, IfOk, IsTrue, MatchOption, true, false};
 ghost use Rattle.kv_syn.specs.Bridge.{plain_term, plain_terms, plain_form, plain_prog};
 ghost use Rattle.kv_syn.specs.Count.{term_nodes, terms_nodes, form_nodes, prog_nodes, term_depth, terms_depth, form_depth, prog_depth};
 ghost use Rattle.kv_syn.specs.Variables.{form_binders, prog_binders};
 ghost use Rattle.kv_subst.specs.Changing.{changed_term, changed_terms, changed_form, changed_prog};
 ghost use Rattle.kv_subst.specs.Opening.{opened, is_admissible};
 ghost use Rattle.kv_subst.specs.Sizes.{term_reach, terms_reach};
-ghost use Rattle.kv_prop.specs.Measures.{Measures};
+ghost use Rattle.kv_goal.specs.Measures.{Measures};
 
-use crate::sizes::Size;
-use kv_subst::open;
-use kv_syn::{Form, List, NoMemory, Prog, Ref, Term};
+use kv_goal::{Size, term_size};
+use kv_subst::form_opened;
+use kv_syn::{Form, List, NoMemory, Prog, Ref, Shared, Term};
 use std::alloc::Global;
 
 /// Trees that stand below so many binders, or count so many, aren't handled. They don't fit into memory.
@@ -49,37 +49,42 @@ pub(crate) fn are_shallow(form: &Form, term: &Term) -> bool
     form.depth() <= MOST_BINDERS && term_within(term, MOST_BINDERS)
 }
 
-/// Whether the body may be opened at the term.
-pub(crate) fn may_open(body: &Form, at: &Term) -> Result<bool, NoMemory>
-    ensures { IfOk result (λ answer. answer ≡ is_admissible (plain_form body.now) (plain_term at.now)) }
-{
-    if !are_shallow(body, at) {
-        return Err(NoMemory);
-    }
-    Ok(kv_subst::admissible(body, at))
+/// A body of a quantifier and a term. The numbers of the term can be raised by the binders of the body.
+#[derive(Clone, Copy)]
+pub(crate) struct Opening<'a> {
+    pub body: &'a Form,
+    pub at: &'a Term,
+    ghost shallow: { form_binders (plain_form body.now) + term_reach (plain_term at.now) < 2 ^ 32 - 1 },
 }
 
-/// The body at the term, where it may be opened there.
-pub(crate) fn opened(alloc: Global, body: &Form, at: &Term) -> Result<Form, NoMemory>
-    ensures { IfOk result (λ form. plain_form form ≡ changed_form (opened (plain_term at.now)) 0 (plain_form body.now)) }
-{
-    if !are_shallow(body, at) {
-        return Err(NoMemory);
+impl<'a> Opening<'a> {
+    /// The body with the term, where it may be opened there. Want of memory where the body is too deep.
+    pub fn of(body: &'a Form, at: &'a Term) -> Result<Option<Opening<'a>>, NoMemory>
+        ensures { IfOk result (λ answer. MatchOption answer (is_admissible (plain_form body.now) (plain_term at.now) ≡ false) (λ opening. (is_admissible (plain_form body.now) (plain_term at.now) ≡ true) × (opening.body.now ≡ body.now) × (opening.at.now ≡ at.now))) }
+    {
+        if !are_shallow(body, at) {
+            return Err(NoMemory);
+        }
+        if kv_subst::admissible(body, at) {
+            Ok(Some(Opening { body, at }))
+        } else {
+            Ok(None)
+        }
     }
-    match open(alloc, body, at) {
-        Ok(form) => Ok(form),
-        Err(_) => Err(NoMemory),
-    }
-}
 
-/// How large the body is at the term.
-pub(crate) fn opened_size(body: &Form, at: &Term) -> Result<Size, NoMemory>
-    ensures { IfOk result (λ size. Measures size (form_nodes (changed_form (opened (plain_term at.now)) 0 (plain_form body.now))) (form_depth (changed_form (opened (plain_term at.now)) 0 (plain_form body.now)))) }
-{
-    if !are_shallow(body, at) {
-        return Err(NoMemory);
+    /// The body at the term.
+    pub fn form(&self, alloc: Global) -> Result<Form, NoMemory>
+        ensures { IfOk result (λ form. plain_form form ≡ changed_form (opened (plain_term self.now.at.now)) 0 (plain_form self.now.body.now)) }
+    {
+        form_opened(alloc, self.body, self.at)
     }
-    Ok(form_opened_size(body, &Counted::of(at), 0))
+
+    /// How large the body is at the term.
+    pub fn size(&self) -> Size
+        ensures { Measures result (form_nodes (changed_form (opened (plain_term self.now.at.now)) 0 (plain_form self.now.body.now))) (form_depth (changed_form (opened (plain_term self.now.at.now)) 0 (plain_form self.now.body.now))) }
+    {
+        form_opened_size(self.body, &Counted::of(self.at), 0)
+    }
 }
 
 /// A term with its size.
@@ -96,7 +101,7 @@ impl<'a> Counted<'a> {
     {
         Counted {
             term,
-            size: Size::of_term(term),
+            size: term_size(term),
         }
     }
 }
@@ -123,7 +128,7 @@ fn term_opened_size(term: &Term, at: &Counted<'_>, depth: u32) -> Size
 
 /// That of a root with these terms below it.
 #[cycle(term_opened_size)]
-fn args_opened_size(args: &List<Term>, at: &Counted<'_>, depth: u32) -> Size
+fn args_opened_size(args: &Shared<List<Term>>, at: &Counted<'_>, depth: u32) -> Size
     ensures { Measures result (1 + terms_nodes (changed_terms (opened (plain_term at.now.term.now) depth) (plain_terms args.now))) (1 + terms_depth (changed_terms (opened (plain_term at.now.term.now) depth) (plain_terms args.now))) }
 {
     terms_opened_size(args.items(), at, depth).below()

@@ -4,68 +4,70 @@ ghost use Rattle.std.specs.Prelude.{◌≡◌, map, IfOk};
 ghost use Rattle.std.specs.Option.{option_copied};
 ghost use Rattle.kv_sig.specs.Sequents.{in_place, at_end};
 ghost use Rattle.kv_sig.specs.Views.{view_of};
-ghost use Rattle.kv_syn.specs.Bridge.{plain_term, plain_form, plain_sequent};
+ghost use Rattle.kv_syn.specs.Bridge.{plain_term, plain_form};
 ghost use Rattle.kv_syn.specs.declared.scripts.Side.TheVariants.{L, R};
+ghost use Rattle.kv_goal.specs.Goals.{plain_goal};
 ghost use Rattle.kv_prop.specs.Premises.{at_place, as_all, as_ex, at_new, at_term, sort_of, variable, one, Gives};
 
 use crate::drafts::{Draft, New, one};
 use crate::fresh::is_fresh;
-use crate::opening::may_open;
+use crate::opening::Opening;
 use crate::places::at;
+use kv_goal::Goal;
 use kv_sig::{Env, StepError, same_name};
-use kv_syn::{Form, List, Name, NoMemory, Plain, Profile, Ref, Sequent, Side, Term, Var};
+use kv_syn::{Form, List, Name, NoMemory, Plain, Profile, Ref, Side, Term, Var};
 use std::alloc::Global;
 
 /// `allR i as x`: for a universal formula on the right its body is shown at a new variable, in its place.
 pub(crate) fn all_right(
     alloc: Global,
     env: &Env<'_>,
-    sequent: &Sequent,
+    goal: &Goal,
     place: u32,
     name: &Name,
-) -> Result<List<Sequent>, StepError>
-    ensures { Gives (map plain_sequent) result (at_place R place (plain_sequent sequent.now) (λ f. as_all f (λ sort a. at_new (view_of env.now.flat.now) (plain_sequent sequent.now) name.now sort a (λ b. one (in_place R place b (plain_sequent sequent.now)))))) }
+) -> Result<List<Goal>, StepError>
+    ensures { Gives (map plain_goal) result (at_place R place (plain_goal goal.now) (λ f. as_all f (λ sort a. at_new (view_of env.now.flat.now) (plain_goal goal.now) name.now sort a (λ b. one (in_place R place b (plain_goal goal.now)))))) }
 {
-    let Form::All(sort, body) = at(sequent, Side::R, place)? else {
+    let Form::All(sort, body) = at(goal, Side::R, place)? else {
         return Err(StepError::Shape);
     };
-    if !is_fresh(env, sequent, name) {
+    if !is_fresh(env, goal, name) {
         return Err(StepError::NotFresh {
             name: name.copy(alloc)?,
         });
     }
     let term = variable(alloc, name, sort)?;
-    if !may_open(body.get(), &term)? {
+    let Some(opening) = Opening::of(body.get(), &term)? else {
         return Err(StepError::Captured);
-    }
-    let new = New::Opened(body.get(), &term);
-    one(alloc, &Draft::in_place(sequent, Side::R, place, new))
+    };
+    let new = New::Opened(opening);
+    one(alloc, &Draft::in_place(goal, Side::R, place, new))
 }
 
 /// `exL i as x`: of an existential formula on the left its body is assumed at a new variable, in its place.
 pub(crate) fn ex_left(
     alloc: Global,
     env: &Env<'_>,
-    sequent: &Sequent,
+    goal: &Goal,
     place: u32,
     name: &Name,
-) -> Result<List<Sequent>, StepError>
-    ensures { Gives (map plain_sequent) result (at_place L place (plain_sequent sequent.now) (λ f. as_ex f (λ sort a. at_new (view_of env.now.flat.now) (plain_sequent sequent.now) name.now sort a (λ b. one (in_place L place b (plain_sequent sequent.now)))))) }
+) -> Result<List<Goal>, StepError>
+    ensures { Gives (map plain_goal) result (at_place L place (plain_goal goal.now) (λ f. as_ex f (λ sort a. at_new (view_of env.now.flat.now) (plain_goal goal.now) name.now sort a (λ b. one (in_place L place b (plain_goal goal.now)))))) }
 {
-    let Form::Ex(sort, body) = at(sequent, Side::L, place)? else {
+    let Form::Ex(sort, body) = at(goal, Side::L, place)? else {
         return Err(StepError::Shape);
     };
-    if !is_fresh(env, sequent, name) {
+    if !is_fresh(env, goal, name) {
         return Err(StepError::NotFresh {
             name: name.copy(alloc)?,
         });
     }
     let term = variable(alloc, name, sort)?;
-    if !may_open(body.get(), &term)? {
+    let Some(opening) = Opening::of(body.get(), &term)? else {
         return Err(StepError::Captured);
-    }
-    let new = New::Opened(body.get(), &term);
-    one(alloc, &Draft::in_place(sequent, Side::L, place, new))
+    };
+    let new = New::Opened(opening);
+    one(alloc, &Draft::in_place(goal, Side::L, place, new))
 }
 
 fn variable(alloc: Global, name: &Name, sort: &Name) -> Result<Term, NoMemory>
@@ -81,45 +83,45 @@ fn variable(alloc: Global, name: &Name, sort: &Name) -> Result<Term, NoMemory>
 pub(crate) fn all_left(
     alloc: Global,
     env: &Env<'_>,
-    sequent: &Sequent,
+    goal: &Goal,
     place: u32,
     term: &Term,
-) -> Result<List<Sequent>, StepError>
-    ensures { Gives (map plain_sequent) result (at_place L place (plain_sequent sequent.now) (λ f. as_all f (λ sort a. at_term (view_of env.now.flat.now) (plain_term term.now) sort a (λ b. one (at_end L b (plain_sequent sequent.now)))))) }
+) -> Result<List<Goal>, StepError>
+    ensures { Gives (map plain_goal) result (at_place L place (plain_goal goal.now) (λ f. as_all f (λ sort a. at_term (view_of env.now.flat.now) (plain_term term.now) sort a (λ b. one (at_end L b (plain_goal goal.now)))))) }
 {
-    let Form::All(sort, body) = at(sequent, Side::L, place)? else {
+    let Form::All(sort, body) = at(goal, Side::L, place)? else {
         return Err(StepError::Shape);
     };
-    at_term(alloc, env, sequent, Side::L, sort, body.get(), term)
+    at_term(alloc, env, goal, Side::L, sort, body.get(), term)
 }
 
 /// `exR i with t`: for an existential formula on the right its body is shown at the term, at the end.
 pub(crate) fn ex_right(
     alloc: Global,
     env: &Env<'_>,
-    sequent: &Sequent,
+    goal: &Goal,
     place: u32,
     term: &Term,
-) -> Result<List<Sequent>, StepError>
-    ensures { Gives (map plain_sequent) result (at_place R place (plain_sequent sequent.now) (λ f. as_ex f (λ sort a. at_term (view_of env.now.flat.now) (plain_term term.now) sort a (λ b. one (at_end R b (plain_sequent sequent.now)))))) }
+) -> Result<List<Goal>, StepError>
+    ensures { Gives (map plain_goal) result (at_place R place (plain_goal goal.now) (λ f. as_ex f (λ sort a. at_term (view_of env.now.flat.now) (plain_term term.now) sort a (λ b. one (at_end R b (plain_goal goal.now)))))) }
 {
-    let Form::Ex(sort, body) = at(sequent, Side::R, place)? else {
+    let Form::Ex(sort, body) = at(goal, Side::R, place)? else {
         return Err(StepError::Shape);
     };
-    at_term(alloc, env, sequent, Side::R, sort, body.get(), term)
+    at_term(alloc, env, goal, Side::R, sort, body.get(), term)
 }
 
 /// The body of a quantifier of that sort at the term, at the end of the side.
 fn at_term(
     alloc: Global,
     env: &Env<'_>,
-    sequent: &Sequent,
+    goal: &Goal,
     side: Side,
     sort: &Name,
     body: &Form,
     term: &Term,
-) -> Result<List<Sequent>, StepError>
-    ensures { Gives (map plain_sequent) result (at_term (view_of env.now.flat.now) (plain_term term.now) sort.now (plain_form body.now) (λ b. one (at_end side b (plain_sequent sequent.now)))) }
+) -> Result<List<Goal>, StepError>
+    ensures { Gives (map plain_goal) result (at_term (view_of env.now.flat.now) (plain_term term.now) sort.now (plain_form body.now) (λ b. one (at_end side b (plain_goal goal.now)))) }
 {
     let Some(got) = sort_of(env, term) else {
         return Err(StepError::Shape);
@@ -130,13 +132,10 @@ fn at_term(
             got: got.copy(alloc)?,
         });
     }
-    if !may_open(body, term)? {
+    let Some(opening) = Opening::of(body, term)? else {
         return Err(StepError::Captured);
-    }
-    one(
-        alloc,
-        &Draft::at_end(sequent, side, New::Opened(body, term)),
-    )
+    };
+    one(alloc, &Draft::at_end(goal, side, New::Opened(opening)))
 }
 
 /// The sort of a term: that of its variable, or the result of its function.

@@ -7,14 +7,14 @@ ghost use Rattle.kv_syn.specs.Same.{ref_eq, term_eq, terms_eq, form_eq};
 ghost use Rattle.kv_syn.specs.Variables.{raised_ref, form_binders, prog_binders};
 ghost use Rattle.kv_subst.specs.Opening.{raised_term, raised_terms};
 ghost use Rattle.kv_subst.specs.Sizes.{term_reach};
-ghost use Rattle.kv_prop.specs.Measures.{Measures};
+ghost use Rattle.kv_goal.specs.Measures.{Measures};
 ghost use Rattle.kv_prop.specs.Replacing.{replaced_term, replaced_terms, replaced_form, touches};
 
 use crate::opening::{Counted, are_shallow};
-use crate::sizes::Size;
+use kv_goal::{Size, form_size, prog_size};
 use kv_sig::same_name;
 use kv_subst::term_raised;
-use kv_syn::{Boxed, Form, List, NoMemory, Plain, Prog, Ref, Term, boxed, is_var, modifies_any};
+use kv_syn::{Form, List, NoMemory, Plain, Prog, Ref, Shared, Term, is_var, modifies_any};
 use std::alloc::Global;
 
 /// Whether the second term in place of the first one leaves the formula as it is.
@@ -221,11 +221,11 @@ fn form_replaced_size(form: &Form, from: &Term, to: &Counted<'_>, depth: u32) ->
         ).below(),
         Form::After(a, f) | Form::Can(a, f) => {
             let behind = if touches(a.get(), from, to.term, depth) {
-                Size::of_form(f.get())
+                form_size(f.get())
             } else {
                 form_replaced_size(f.get(), from, to, depth)
             };
-            Size::of_prog(a.get()).and(behind).below()
+            prog_size(a.get()).and(behind).below()
         }
     }
 }
@@ -251,9 +251,26 @@ fn term_replaced(
         Term::Place(r) => Ok(Term::Place(r.copy(alloc)?)),
         Term::App(f, ts) => Ok(Term::App(
             f.copy(alloc)?,
-            terms_replaced(alloc, ts.items(), from, to, depth)?,
+            shared_terms(alloc, ts, from, to, depth)?,
         )),
     }
+}
+
+#[cycle(term_replaced)]
+fn shared_terms(
+    alloc: Global,
+    terms: &Shared<List<Term>>,
+    from: &Term,
+    to: &Term,
+    depth: u32,
+) -> Result<Shared<List<Term>>, NoMemory>
+    requires { term_reach (plain_term to.now) + depth < 2 ^ 32 }
+    ensures { IfOk result (λ ts. plain_terms ts ≡ replaced_terms (raised_term depth (plain_term from.now)) (raised_term depth (plain_term to.now)) (plain_terms terms.now)) }
+{
+    Shared::new(
+        alloc,
+        terms_replaced(alloc, terms.items(), from, to, depth)?,
+    )
 }
 
 #[cycle(term_replaced)]
@@ -290,75 +307,75 @@ fn form_replaced(
         Form::False => Ok(Form::False),
         Form::Atom(p, ts) => Ok(Form::Atom(
             p.copy(alloc)?,
-            terms_replaced(alloc, ts.items(), from, to, depth)?,
+            shared_terms(alloc, ts, from, to, depth)?,
         )),
         Form::Equal(t, u) => Ok(Form::Equal(
             term_replaced(alloc, t, from, to, depth)?,
             term_replaced(alloc, u, from, to, depth)?,
         )),
-        Form::Not(f) => Ok(Form::Not(boxed_form(alloc, f, from, to, depth)?)),
+        Form::Not(f) => Ok(Form::Not(shared_form(alloc, f, from, to, depth)?)),
         Form::And(f, g) => Ok(Form::And(
-            boxed_form(alloc, f, from, to, depth)?,
-            boxed_form(alloc, g, from, to, depth)?,
+            shared_form(alloc, f, from, to, depth)?,
+            shared_form(alloc, g, from, to, depth)?,
         )),
         Form::Or(f, g) => Ok(Form::Or(
-            boxed_form(alloc, f, from, to, depth)?,
-            boxed_form(alloc, g, from, to, depth)?,
+            shared_form(alloc, f, from, to, depth)?,
+            shared_form(alloc, g, from, to, depth)?,
         )),
         Form::Imp(f, g) => Ok(Form::Imp(
-            boxed_form(alloc, f, from, to, depth)?,
-            boxed_form(alloc, g, from, to, depth)?,
+            shared_form(alloc, f, from, to, depth)?,
+            shared_form(alloc, g, from, to, depth)?,
         )),
         Form::Iff(f, g) => Ok(Form::Iff(
-            boxed_form(alloc, f, from, to, depth)?,
-            boxed_form(alloc, g, from, to, depth)?,
+            shared_form(alloc, f, from, to, depth)?,
+            shared_form(alloc, g, from, to, depth)?,
         )),
         Form::All(s, f) => Ok(Form::All(
             s.copy(alloc)?,
-            boxed_form(alloc, f, from, to, depth + 1)?,
+            shared_form(alloc, f, from, to, depth + 1)?,
         )),
-        Form::Ex(s, f) => Ok(Form::Ex(s.copy(alloc)?, boxed_form(alloc, f, from, to, depth + 1)?)),
+        Form::Ex(s, f) => Ok(Form::Ex(s.copy(alloc)?, shared_form(alloc, f, from, to, depth + 1)?)),
         Form::After(a, f) => Ok(Form::After(
-            boxed(alloc, a.get().copy(alloc)?)?,
+            a.share()?,
             form_behind(alloc, f, touches(a.get(), from, to, depth), from, to, depth)?,
         )),
         Form::Can(a, f) => Ok(Form::Can(
-            boxed(alloc, a.get().copy(alloc)?)?,
+            a.share()?,
             form_behind(alloc, f, touches(a.get(), from, to, depth), from, to, depth)?,
         )),
     }
 }
 
 #[cycle(form_replaced)]
-fn boxed_form(
+fn shared_form(
     alloc: Global,
-    form: &Boxed<Form>,
+    form: &Shared<Form>,
     from: &Term,
     to: &Term,
     depth: u32,
-) -> Result<Boxed<Form>, NoMemory>
+) -> Result<Shared<Form>, NoMemory>
     requires { form_binders (plain_form form.now) + term_reach (plain_term to.now) + depth < 2 ^ 32 }
     ensures { IfOk result (λ f. plain_form f ≡ replaced_form (plain_term from.now) (plain_term to.now) depth (plain_form form.now)) }
 {
-    boxed(alloc, form_replaced(alloc, form.get(), from, to, depth)?)
+    Shared::new(alloc, form_replaced(alloc, form.get(), from, to, depth)?)
 }
 
 /// The formula behind a program, which touches one of the terms or not.
 #[cycle(form_replaced)]
 fn form_behind(
     alloc: Global,
-    form: &Boxed<Form>,
+    form: &Shared<Form>,
     touched: bool,
     from: &Term,
     to: &Term,
     depth: u32,
-) -> Result<Boxed<Form>, NoMemory>
+) -> Result<Shared<Form>, NoMemory>
     requires { form_binders (plain_form form.now) + term_reach (plain_term to.now) + depth < 2 ^ 32 }
     ensures { IfOk result (λ f. plain_form f ≡ (if touched then plain_form form.now else replaced_form (plain_term from.now) (plain_term to.now) depth (plain_form form.now))) }
 {
     if touched {
-        boxed(alloc, form.get().copy(alloc)?)
+        form.share()
     } else {
-        boxed(alloc, form_replaced(alloc, form.get(), from, to, depth)?)
+        Shared::new(alloc, form_replaced(alloc, form.get(), from, to, depth)?)
     }
 }

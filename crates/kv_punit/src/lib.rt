@@ -21,6 +21,3 @@ pub use errors::{TextError, Which};
 pub use limits::theorem_count;
 pub use projects::{one_project, project};
 pub use readers::{command, one_text, script, unit};
-
-#[cfg(test)]
-mod tests;

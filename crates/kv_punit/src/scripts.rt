@@ -12,7 +12,7 @@ use crate::steps::step;
 use crate::tokens::{end, mark};
 use kv_lex::{Token, mark as row};
 use kv_pexpr::{ReadError, eat_mark, eat_word};
-use kv_syn::{List, Script, Step};
+use kv_syn::{List, Script, Shared, Step};
 use kv_table::keyword;
 use std::alloc::Global;
 
@@ -85,6 +85,7 @@ impl<F: Fn(Global, &[Token], u32) -> Result<(Script, &[Token]), ReadError>> Chil
         ensures { Gives (seen plain_script) result (spec.node (spec.script self.now.most) (plain_step step, kinds tokens.now)) }
     {
         let (children, rest) = self.children(tokens)?;
+        let children = Shared::new(self.alloc, children)?;
         Ok((Script::Node(step, children), rest))
     }
 }

@@ -5,6 +5,3 @@ mod lines;
 mod replies;
 
 pub use replies::reply;
-
-#[cfg(test)]
-mod tests;

@@ -21,7 +21,5 @@ pub mod Sofar
 pub mod Sorts
 pub mod Texts
 pub mod Told
-pub mod Seen
 pub mod Keys
-pub mod Pushed
 pub mod Taken

@@ -3,7 +3,7 @@ use Rattle.std.proofs.Common.{Bool, true, false, ◌||◌, if◌then◌else◌, 
 use Rattle.std.specs.List.{list_any}
 use Rattle.kv_sig.specs.Members.{In, here, there}
 use Rattle.kv_calc.proofs.Members.{in_front, in_back, in_either}
-use Rattle.kv_script.specs.Once.{once_after, once}
+use Rattle.kv_goal.specs.Once.{once_after, once}
 
 if_in : {A : Type 0} (b : Bool) (us vs : List A) (x : A) → In x (if b then us else vs) → In x us ⊎ In x vs
 if_in true us vs x i = inl i

@@ -1,18 +1,15 @@
 -- The outcome of a whole replay.
-use Rattle.std.proofs.Common.{ℕ, Bool, zero, suc, ◌-◌, ◌^◌, min, List, [], ◌∷◌, ◌++◌, map, Option, None, is_none, ◌==◌, ◌&&◌, ◌≡◌, sym, subst, ap, ap₂, ◌∙◌, arith}
+use Rattle.std.proofs.Common.{ℕ, Bool, zero, suc, ◌-◌, ◌^◌, min, List, [], Option, None, is_none, ◌==◌, ◌&&◌, ◌≡◌, sym, subst, ap, ap₂, ◌∙◌, arith}
 use Rattle.std.specs.Prelude.{Result, Ok, Err, IfOk}
 use Rattle.std.proofs.lemmas.Bool.{ne_eqb}
-use Rattle.kv_script.specs.Events.{Event, outcome_of, first_fault, goal_count, goal_sequent, is_closed}
+use Rattle.kv_script.specs.Events.{Event, outcome_of, first_fault, goal_count, is_closed}
 use Rattle.kv_script.specs.Once.{names_once, looks_once}
 use Rattle.kv_script.specs.Tallies.{Told, tally_outcome}
 use Rattle.kv_script.specs.declared.tally.Tally.{Tally}
-use Rattle.kv_syn.specs.Bridge.{plain_form}
-use Rattle.kv_syn.specs.Trees as P
 use Rattle.kv_syn.specs.Trees.{Name}
 use Rattle.kv_syn.specs.declared.outcomes.Look.{Look}
 use Rattle.kv_syn.specs.declared.outcomes.Fault.{Fault}
 use Rattle.kv_syn.specs.declared.outcomes.Outcome.{Outcome}
-use Rattle.kv_syn.specs.declared.trees.Form.{Form}
 
 abbrev pub at_start : Tally
 at_start = record { goals = 0; broken = None; uses = []; looks = [] }
@@ -45,9 +42,3 @@ told_outcome o t es is told =
 pub where_ok : {A E : Type 0} {P Q : A → Type 0} (result : Result A E) → IfOk result P → ((x : A) → P x → Q x) → IfOk result Q
 where_ok (Ok x) told next = next x told
 where_ok (Err e) told next = tt
-
-abbrev sides : List Form → List Form → P.Sequent
-sides left right = record { left = map plain_form left; right = map plain_form right }
-
-pub goal_alone : (left right before : List Form) (copy goal : Form) → left ≡ [] → before ≡ [] → right ≡ before ++ copy ∷ [] → copy ≡ goal → sides left right ≡ goal_sequent (plain_form goal)
-goal_alone left right before copy goal e none pushed same = ap₂ sides e (pushed ∙ ap₂ (λ fs f. fs ++ f ∷ []) none same)

@@ -1,32 +1,21 @@
 -- What a step of a script answers at a sequent: its premises, or why it is refused.
 use Rattle.std.specs.Prelude.{ℕ, suc, nat_lt, if◌then◌else◌, List, [], ◌∷◌, length, map, Result, Ok, Err}
-use Rattle.std.specs.Str.{bytes_eq}
 use Rattle.kv_elab.specs.Elab.{elab_form, elab_term}
 use Rattle.kv_elab.specs.Names.{form_names, term_names, symbols_named}
 use Rattle.kv_elab.specs.Typed.{Typed, and_then}
 use Rattle.kv_elab.specs.declared.contexts.Context.{Context}
 use Rattle.kv_prop.specs.Premises.{Premises, premises}
-use Rattle.kv_script.specs.Once.{once}
 use Rattle.kv_script.specs.Reasons.{refusal_reason, surplus_reason, typing_reason}
-use Rattle.kv_sig.specs.FreeNames.{free_sequent, assumed_sequent}
+use Rattle.kv_goal.specs.ByName.{variables_by_name, procedures_by_name}
 use Rattle.kv_sig.specs.Steps.{TypedText, TypedStep}
 use Rattle.kv_sig.specs.Views.{View}
 use Rattle.kv_syn.specs.Scripts.{Scripts, Step, StepText}
-use Rattle.kv_syn.specs.Trees.{Name, Sequent}
+use Rattle.kv_syn.specs.Trees.{Sequent}
 use Rattle.kv_syn.specs.declared.outcomes.Look.{Look}
 use Rattle.kv_syn.specs.declared.outcomes.Look.TheVariants.{Symbol, Label}
 use Rattle.kv_syn.specs.declared.outcomes.Reason.{Reason}
-use Rattle.kv_syn.specs.declared.symbols.Profile.{Profile}
-use Rattle.kv_syn.specs.declared.symbols.Var.{Var}
 
 -- ---- the text of a step
-
--- the free variables and the assumed procedures of a sequent, each name once
-abbrev pub variables_by_name : Sequent → List Var
-variables_by_name s = once (λ (x y : Var). bytes_eq x.name y.name) (free_sequent s)
-
-abbrev pub procedures_by_name : Sequent → List (Name × Profile)
-procedures_by_name s = once (λ (p q : Name × Profile). bytes_eq p.0 q.0) (assumed_sequent s)
 
 -- a text may name these
 abbrev pub context_of : Sequent → Context

@@ -1,18 +1,18 @@
 -- Events that are told to a tally.
 use Rattle.std.specs.Prelude.{◌+◌, ◌-◌, ◌^◌, min, List, ◌++◌, map, Option, Some, None, Ok, Err, Result, ◌≡◌, ◌==◌, ◌&&◌, is_none}
+use Rattle.kv_goal.specs.Goals.{plain_goal}
+use Rattle.kv_goal.specs.declared.goals.Goal.{Goal}
 use Rattle.kv_script.specs.Answers.{Answer}
 use Rattle.kv_script.specs.Events.{Event, goal_count, first_fault, used_labels, asked_looks}
 use Rattle.kv_script.specs.Once.{names_once, looks_once}
 use Rattle.kv_script.specs.declared.tally.Tally.{Tally}
-use Rattle.kv_syn.specs.Bridge.{plain_sequent}
 use Rattle.kv_syn.specs.declared.outcomes.Fault.{Fault}
 use Rattle.kv_syn.specs.declared.outcomes.Outcome.{Outcome}
 use Rattle.kv_syn.specs.declared.outcomes.Reason.{Reason}
-use Rattle.kv_syn.specs.declared.trees.Sequent.{Sequent}
 
 -- the answer of the code as plain data
-abbrev pub plain_answer : Result (List Sequent) Reason → Answer
-plain_answer (Ok ps) = Ok (map plain_sequent ps)
+abbrev pub plain_answer : Result (List Goal) Reason → Answer
+plain_answer (Ok ps) = Ok (map plain_goal ps)
 plain_answer (Err reason) = Err reason
 
 -- the first one, where there is one

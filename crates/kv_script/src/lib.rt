@@ -13,8 +13,3 @@ mod tally;
 pub use laws::equal_answers_equal_replays;
 pub use reasons::typing_reason;
 pub use replaying::replay;
-
-#[cfg(test)]
-mod tests;
-#[cfg(test)]
-mod text_tests;

@@ -1,19 +1,21 @@
 // Replay.
 
 ghost use Rattle.std.specs.Prelude.{◌≡◌, ◌+◌, ◌<◌, ◌≤◌, true, ◌∷◌, drop, length, map, IfErr, IfOk, OnOk};
+ghost use Rattle.kv_goal.specs.Goals.{plain_goal};
 ghost use Rattle.kv_script.specs.Answers.{answer};
 ghost use Rattle.kv_script.specs.Derives.{Derives};
 ghost use Rattle.kv_script.specs.Events.{outcome_of, events, events_below, replay_events, visits};
 ghost use Rattle.kv_script.specs.Tallies.{Told, plain_answer};
 ghost use Rattle.kv_sig.specs.Views.{view_of};
-ghost use Rattle.kv_syn.specs.Bridge.{plain_form, plain_sequent};
+ghost use Rattle.kv_syn.specs.Bridge.{plain_form};
 ghost use Rattle.kv_syn.specs.Rows.{has_fault_rows, has_reason_row};
 ghost use Rattle.kv_syn.specs.ScriptBridge.{plain_script, plain_scripts, plain_step};
 
 use crate::answers::answer;
 use crate::tally::Tally;
+use kv_goal::Goal;
 use kv_sig::Env;
-use kv_syn::{Form, List, NoMemory, Outcome, Path, Plain, Reason, Script, Sequent, Step, Steps};
+use kv_syn::{Form, List, NoMemory, Outcome, Path, Plain, Reason, Script, Step, Steps};
 use std::alloc::Global;
 use std::mem;
 use std::sync::ledger::Ledger;
@@ -36,12 +38,7 @@ pub fn replay<L: Ledger>(
     ensures steps { OnOk result (steps.new ≡ steps.old + visits (replay_events (view_of env.now.flat.now) (plain_form goal.now) (plain_script script.now))) }
     ensures at_most { steps.new ≤ steps.old + visits (replay_events (view_of env.now.flat.now) (plain_form goal.now) (plain_script script.now)) }
 {
-    let mut right = List::new(alloc);
-    right.push(goal.copy(alloc)?)?;
-    let root = Sequent {
-        left: List::new(alloc),
-        right,
-    };
+    let root = Goal::of_form(alloc, goal)?;
     let mut path = List::new(alloc);
     let mut tally = Tally {
         goals: 0,
@@ -53,26 +50,26 @@ pub fn replay<L: Ledger>(
     tally.outcome(alloc)
 }
 
-/// The answer to a step at a sequent that isn't needed behind it.
+/// The answer to a step at a goal that isn't needed behind it.
 fn answer_at(
     alloc: Global,
     env: &Env,
-    sequent: Sequent,
+    goal: Goal,
     step: &Step,
     children: &[Script],
-) -> Result<Result<List<Sequent>, Reason>, NoMemory>
+) -> Result<Result<List<Goal>, Reason>, NoMemory>
     ensures rows { IfOk result (λ a. IfErr a (λ reason. has_reason_row reason ≡ true)) }
-    ensures answer { IfOk result (λ a. plain_answer a ≡ answer (view_of env.now.flat.now) (plain_sequent sequent) (plain_step step.now) (plain_scripts children.now)) }
+    ensures answer { IfOk result (λ a. plain_answer a ≡ answer (view_of env.now.flat.now) (plain_goal goal) (plain_step step.now) (plain_scripts children.now)) }
 {
-    answer(alloc, env, &sequent, step, children)
+    answer(alloc, env, &goal, step, children)
 }
 
-/// Replays a script at a sequent.
+/// Replays a script at a goal.
 #[cycle(replay)]
 fn replay_at<L: Ledger>(
     alloc: Global,
     env: &Env,
-    sequent: Sequent,
+    goal: Goal,
     script: &Script,
     path: &mut Path,
     tally: &mut Tally,
@@ -81,9 +78,9 @@ fn replay_at<L: Ledger>(
     requires { has_fault_rows tally.old.broken ≡ true }
     ensures rows { OnOk result (has_fault_rows tally.new.broken ≡ true) }
     ensures path { OnOk result (path.new ≡ path.old) }
-    ensures told { OnOk result (Told tally.old tally.new (events (view_of env.now.flat.now) (plain_sequent sequent) path.old (plain_script script.now))) }
-    ensures steps { OnOk result (steps.new ≡ steps.old + visits (events (view_of env.now.flat.now) (plain_sequent sequent) path.old (plain_script script.now))) }
-    ensures at_most { steps.new ≤ steps.old + visits (events (view_of env.now.flat.now) (plain_sequent sequent) path.old (plain_script script.now)) }
+    ensures told { OnOk result (Told tally.old tally.new (events (view_of env.now.flat.now) (plain_goal goal) path.old (plain_script script.now))) }
+    ensures steps { OnOk result (steps.new ≡ steps.old + visits (events (view_of env.now.flat.now) (plain_goal goal) path.old (plain_script script.now))) }
+    ensures at_most { steps.new ≤ steps.old + visits (events (view_of env.now.flat.now) (plain_goal goal) path.old (plain_script script.now)) }
 {
     // (the proof reads off here that the count fits its type)
     let _goals = tally.goals;
@@ -95,7 +92,7 @@ fn replay_at<L: Ledger>(
         Script::Node(step, children) => {
             steps.tick();
             tally.ask(alloc, &step.text)?;
-            match answer_at(alloc, env, sequent, step, children.items())? {
+            match answer_at(alloc, env, goal, step, children.items())? {
                 Err(reason) => tally.refuse(alloc, path, step.rule, reason),
                 Ok(premises) => {
                     tally.use_label(alloc, &step.text)?;
@@ -106,18 +103,15 @@ fn replay_at<L: Ledger>(
     }
 }
 
-/// Takes the sequent at that place, and leaves an empty one there.
-fn taken(alloc: Global, premises: &mut List<Sequent>, place: usize) -> Sequent
+/// Takes the goal at that place, and leaves an empty one there.
+fn taken(alloc: Global, premises: &mut List<Goal>, place: usize) -> Goal
     requires { place < length premises.old }
     ensures first { drop place premises.old ≡ result ∷ drop (place + 1) premises.new }
     ensures length { length premises.new ≡ length premises.old }
 {
-    let mut sequent = Sequent {
-        left: List::new(alloc),
-        right: List::new(alloc),
-    };
-    mem::swap(premises.item_mut(place), &mut sequent);
-    sequent
+    let mut goal = Goal::empty(alloc);
+    mem::swap(premises.item_mut(place), &mut goal);
+    goal
 }
 
 /// Replays the children of a step at its premises, each of which goes with its child. A premise without a child is an open goal.
@@ -125,7 +119,7 @@ fn taken(alloc: Global, premises: &mut List<Sequent>, place: usize) -> Sequent
 fn replay_below<L: Ledger>(
     alloc: Global,
     env: &Env,
-    mut premises: List<Sequent>,
+    mut premises: List<Goal>,
     children: &[Script],
     path: &mut Path,
     tally: &mut Tally,
@@ -134,9 +128,9 @@ fn replay_below<L: Ledger>(
     requires { has_fault_rows tally.old.broken ≡ true }
     ensures rows { OnOk result (has_fault_rows tally.new.broken ≡ true) }
     ensures path { OnOk result (path.new ≡ path.old) }
-    ensures told { OnOk result (Told tally.old tally.new (events_below (view_of env.now.flat.now) path.old 0 (map plain_sequent premises) (plain_scripts children.now))) }
-    ensures steps { OnOk result (steps.new ≡ steps.old + visits (events_below (view_of env.now.flat.now) path.old 0 (map plain_sequent premises) (plain_scripts children.now))) }
-    ensures at_most { steps.new ≤ steps.old + visits (events_below (view_of env.now.flat.now) path.old 0 (map plain_sequent premises) (plain_scripts children.now)) }
+    ensures told { OnOk result (Told tally.old tally.new (events_below (view_of env.now.flat.now) path.old 0 (map plain_goal premises) (plain_scripts children.now))) }
+    ensures steps { OnOk result (steps.new ≡ steps.old + visits (events_below (view_of env.now.flat.now) path.old 0 (map plain_goal premises) (plain_scripts children.now))) }
+    ensures at_most { steps.new ≤ steps.old + visits (events_below (view_of env.now.flat.now) path.old 0 (map plain_goal premises) (plain_scripts children.now)) }
 {
     // (the proof reads off here that the count fits its type)
     let _goals = tally.goals;

@@ -18,8 +18,3 @@ pub use laws::{kept, one_answer, reads_back};
 pub use replies::{accepted, refused, unread};
 pub use session::Session;
 pub use stepping::Answer;
-
-#[cfg(test)]
-mod session_tests;
-#[cfg(test)]
-mod tests;

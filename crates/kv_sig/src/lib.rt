@@ -11,6 +11,3 @@ pub use flats::{Body, Env, Flat};
 pub use names::same_name;
 pub use refusals::StepError;
 pub use sigs::{Sig, SigError};
-
-#[cfg(test)]
-mod tests;

@@ -8,8 +8,8 @@ ghost use Rattle.kv_subst.specs.Work.{change_of, most_of};
 
 use crate::changes::Work;
 use crate::places::{ref_changed, refs_changed};
-use crate::terms::{term_changed, terms_changed};
-use kv_syn::{Boxed, Form, NoMemory, Plain, Prog, boxed};
+use crate::terms::{shared_terms, term_changed};
+use kv_syn::{Form, NoMemory, Plain, Prog, Shared};
 use std::alloc::Global;
 
 #[cycle(form_changed)]
@@ -25,55 +25,52 @@ pub(crate) fn form_changed(
     match form {
         Form::True => Ok(Form::True),
         Form::False => Ok(Form::False),
-        Form::Atom(p, ts) => Ok(Form::Atom(
-            p.copy(alloc)?,
-            terms_changed(alloc, ts.items(), work, depth)?,
-        )),
+        Form::Atom(p, ts) => Ok(Form::Atom(p.copy(alloc)?, shared_terms(alloc, ts, work, depth)?)),
         Form::Equal(s, t) => Ok(Form::Equal(
             term_changed(alloc, s, work, depth)?,
             term_changed(alloc, t, work, depth)?,
         )),
-        Form::Not(f) => Ok(Form::Not(boxed_form(alloc, f, work, depth)?)),
+        Form::Not(f) => Ok(Form::Not(shared_form(alloc, f, work, depth)?)),
         Form::And(f, g) => Ok(Form::And(
-            boxed_form(alloc, f, work, depth)?,
-            boxed_form(alloc, g, work, depth)?,
+            shared_form(alloc, f, work, depth)?,
+            shared_form(alloc, g, work, depth)?,
         )),
         Form::Or(f, g) => Ok(Form::Or(
-            boxed_form(alloc, f, work, depth)?,
-            boxed_form(alloc, g, work, depth)?,
+            shared_form(alloc, f, work, depth)?,
+            shared_form(alloc, g, work, depth)?,
         )),
         Form::Imp(f, g) => Ok(Form::Imp(
-            boxed_form(alloc, f, work, depth)?,
-            boxed_form(alloc, g, work, depth)?,
+            shared_form(alloc, f, work, depth)?,
+            shared_form(alloc, g, work, depth)?,
         )),
         Form::Iff(f, g) => Ok(Form::Iff(
-            boxed_form(alloc, f, work, depth)?,
-            boxed_form(alloc, g, work, depth)?,
+            shared_form(alloc, f, work, depth)?,
+            shared_form(alloc, g, work, depth)?,
         )),
-        Form::All(s, f) => Ok(Form::All(s.copy(alloc)?, boxed_form(alloc, f, work, depth + 1)?)),
-        Form::Ex(s, f) => Ok(Form::Ex(s.copy(alloc)?, boxed_form(alloc, f, work, depth + 1)?)),
+        Form::All(s, f) => Ok(Form::All(s.copy(alloc)?, shared_form(alloc, f, work, depth + 1)?)),
+        Form::Ex(s, f) => Ok(Form::Ex(s.copy(alloc)?, shared_form(alloc, f, work, depth + 1)?)),
         Form::After(a, f) => Ok(Form::After(
-            boxed_prog(alloc, a, work, depth)?,
-            boxed_form(alloc, f, work, depth)?,
+            shared_prog(alloc, a, work, depth)?,
+            shared_form(alloc, f, work, depth)?,
         )),
         Form::Can(a, f) => Ok(Form::Can(
-            boxed_prog(alloc, a, work, depth)?,
-            boxed_form(alloc, f, work, depth)?,
+            shared_prog(alloc, a, work, depth)?,
+            shared_form(alloc, f, work, depth)?,
         )),
     }
 }
 
 #[cycle(form_changed)]
-fn boxed_form(
+fn shared_form(
     alloc: Global,
-    form: &Boxed<Form>,
+    form: &Shared<Form>,
     work: &Work<'_>,
     depth: u32,
-) -> Result<Boxed<Form>, NoMemory>
+) -> Result<Shared<Form>, NoMemory>
     requires { form_top (most_of work.now) depth (plain_form form.now) < 2 ^ 32 }
     ensures { IfOk result (λ f. plain_form f ≡ changed_form (change_of work.now) depth (plain_form form.now)) }
 {
-    boxed(alloc, form_changed(alloc, form.get(), work, depth)?)
+    Shared::new(alloc, form_changed(alloc, form.get(), work, depth)?)
 }
 
 #[cycle(form_changed)]
@@ -94,44 +91,44 @@ pub(crate) fn prog_changed(
             term_changed(alloc, t, work, depth)?,
         )),
         Prog::Seq(a, b) => Ok(Prog::Seq(
-            boxed_prog(alloc, a, work, depth)?,
-            boxed_prog(alloc, b, work, depth)?,
+            shared_prog(alloc, a, work, depth)?,
+            shared_prog(alloc, b, work, depth)?,
         )),
         Prog::If(e, a, b) => Ok(Prog::If(
-            boxed_form(alloc, e, work, depth)?,
-            boxed_prog(alloc, a, work, depth)?,
-            boxed_prog(alloc, b, work, depth)?,
+            shared_form(alloc, e, work, depth)?,
+            shared_prog(alloc, a, work, depth)?,
+            shared_prog(alloc, b, work, depth)?,
         )),
         Prog::While(e, a) => Ok(Prog::While(
-            boxed_form(alloc, e, work, depth)?,
-            boxed_prog(alloc, a, work, depth)?,
+            shared_form(alloc, e, work, depth)?,
+            shared_prog(alloc, a, work, depth)?,
         )),
         Prog::Local(s, t, a) => Ok(Prog::Local(
             s.copy(alloc)?,
             term_changed(alloc, t, work, depth)?,
-            boxed_prog(alloc, a, work, depth + 1)?,
+            shared_prog(alloc, a, work, depth + 1)?,
         )),
         Prog::Call(p, ts, rs) => Ok(Prog::Call(
             p.copy(alloc)?,
-            terms_changed(alloc, ts.items(), work, depth)?,
-            refs_changed(alloc, rs.items(), work, depth)?,
+            shared_terms(alloc, ts, work, depth)?,
+            Shared::new(alloc, refs_changed(alloc, rs.items(), work, depth)?)?,
         )),
         Prog::Choice(a, b) => Ok(Prog::Choice(
-            boxed_prog(alloc, a, work, depth)?,
-            boxed_prog(alloc, b, work, depth)?,
+            shared_prog(alloc, a, work, depth)?,
+            shared_prog(alloc, b, work, depth)?,
         )),
     }
 }
 
 #[cycle(form_changed)]
-fn boxed_prog(
+fn shared_prog(
     alloc: Global,
-    prog: &Boxed<Prog>,
+    prog: &Shared<Prog>,
     work: &Work<'_>,
     depth: u32,
-) -> Result<Boxed<Prog>, NoMemory>
+) -> Result<Shared<Prog>, NoMemory>
     requires { prog_top (most_of work.now) depth (plain_prog prog.now) < 2 ^ 32 }
     ensures { IfOk result (λ a. plain_prog a ≡ changed_prog (change_of work.now) depth (plain_prog prog.now)) }
 {
-    boxed(alloc, prog_changed(alloc, prog.get(), work, depth)?)
+    Shared::new(alloc, prog_changed(alloc, prog.get(), work, depth)?)
 }

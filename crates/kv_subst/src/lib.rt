@@ -17,9 +17,6 @@ pub use laws::{
     renaming_keeps_openings, renaming_what_is_opened, typing_of_a_closing, typing_of_a_renaming,
     typing_of_an_opening, variables_of_a_renaming, variables_of_an_opening,
 };
-pub use opening::{close_var, open, open_prog, open_var};
+pub use opening::{close_var, form_opened, open, open_prog, open_var};
 pub use places::term_raised;
 pub use renaming::rename;
-
-#[cfg(test)]
-mod tests;

@@ -16,7 +16,8 @@ use crate::forms::{form_changed, prog_changed};
 use kv_syn::{Form, NoMemory, Plain, Prog, Ref, SubstError, Term, Var};
 use std::alloc::Global;
 
-fn form_opened(alloc: Global, body: &Form, at: &Term) -> Result<Form, NoMemory>
+/// The body of a binder at the term, be that admissible or not.
+pub fn form_opened(alloc: Global, body: &Form, at: &Term) -> Result<Form, NoMemory>
     requires { form_binders (plain_form body.now) + term_reach (plain_term at.now) < 2 ^ 32 }
     ensures { IfOk result (λ f. plain_form f ≡ changed_form (opened (plain_term at.now)) 0 (plain_form body.now)) }
 {

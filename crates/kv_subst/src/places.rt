@@ -10,7 +10,7 @@ ghost use Rattle.kv_subst.specs.Tops.{refs_top};
 ghost use Rattle.kv_subst.specs.Work.{change_of, most_of};
 
 use crate::changes::Work;
-use kv_syn::{List, NoMemory, Plain, Ref, Term, Var, is_var};
+use kv_syn::{List, NoMemory, Plain, Ref, Shared, Term, Var, is_var};
 use std::alloc::Global;
 
 fn ref_raised(alloc: Global, place: &Ref, by: u32) -> Result<Ref, NoMemory>
@@ -31,8 +31,20 @@ pub fn term_raised(alloc: Global, term: &Term, by: u32) -> Result<Term, NoMemory
 {
     match term {
         Term::Place(r) => Ok(Term::Place(ref_raised(alloc, r, by)?)),
-        Term::App(f, ts) => Ok(Term::App(f.copy(alloc)?, terms_raised(alloc, ts.items(), by)?)),
+        Term::App(f, ts) => Ok(Term::App(f.copy(alloc)?, shared_terms(alloc, ts, by)?)),
     }
+}
+
+#[cycle(term_raised)]
+fn shared_terms(
+    alloc: Global,
+    terms: &Shared<List<Term>>,
+    by: u32,
+) -> Result<Shared<List<Term>>, NoMemory>
+    requires { terms_reach (plain_terms terms.now) + by < 2 ^ 32 }
+    ensures { IfOk result (λ ts. plain_terms ts ≡ raised_terms by (plain_terms terms.now)) }
+{
+    Shared::new(alloc, terms_raised(alloc, terms.items(), by)?)
 }
 
 #[cycle(term_raised)]

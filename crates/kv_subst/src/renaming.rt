@@ -6,7 +6,7 @@ ghost use Rattle.kv_syn.specs.Bridge.{plain_term, plain_terms, plain_form, plain
 ghost use Rattle.kv_subst.specs.Changing.{changed_term, changed_terms, changed_form, changed_prog};
 ghost use Rattle.kv_subst.specs.Opening.{renamed_var, renamed, rename_form};
 
-use kv_syn::{Boxed, Form, List, Name, NoMemory, Plain, Prog, Ref, Term, Var, boxed, is_var};
+use kv_syn::{Form, List, Name, NoMemory, Plain, Prog, Ref, Shared, Term, Var, is_var};
 use std::alloc::Global;
 
 /// The formula with another name for the variable, which keeps its sort.
@@ -50,11 +50,20 @@ fn term_renamed(alloc: Global, term: &Term, from: &Var, to: &Name) -> Result<Ter
 {
     match term {
         Term::Place(r) => Ok(Term::Place(ref_renamed(alloc, r, from, to)?)),
-        Term::App(f, ts) => Ok(Term::App(
-            f.copy(alloc)?,
-            terms_renamed(alloc, ts.items(), from, to)?,
-        )),
+        Term::App(f, ts) => Ok(Term::App(f.copy(alloc)?, shared_terms(alloc, ts, from, to)?)),
     }
+}
+
+#[cycle(term_renamed)]
+fn shared_terms(
+    alloc: Global,
+    terms: &Shared<List<Term>>,
+    from: &Var,
+    to: &Name,
+) -> Result<Shared<List<Term>>, NoMemory>
+    ensures { IfOk result (λ ts. plain_terms ts ≡ changed_terms (renamed from.now to.now 0) (plain_terms terms.now)) }
+{
+    Shared::new(alloc, terms_renamed(alloc, terms.items(), from, to)?)
 }
 
 #[cycle(term_renamed)]
@@ -80,54 +89,51 @@ fn form_renamed(alloc: Global, form: &Form, from: &Var, to: &Name) -> Result<For
     match form {
         Form::True => Ok(Form::True),
         Form::False => Ok(Form::False),
-        Form::Atom(p, ts) => Ok(Form::Atom(
-            p.copy(alloc)?,
-            terms_renamed(alloc, ts.items(), from, to)?,
-        )),
+        Form::Atom(p, ts) => Ok(Form::Atom(p.copy(alloc)?, shared_terms(alloc, ts, from, to)?)),
         Form::Equal(s, t) => Ok(Form::Equal(
             term_renamed(alloc, s, from, to)?,
             term_renamed(alloc, t, from, to)?,
         )),
-        Form::Not(f) => Ok(Form::Not(boxed_form(alloc, f, from, to)?)),
+        Form::Not(f) => Ok(Form::Not(shared_form(alloc, f, from, to)?)),
         Form::And(f, g) => Ok(Form::And(
-            boxed_form(alloc, f, from, to)?,
-            boxed_form(alloc, g, from, to)?,
+            shared_form(alloc, f, from, to)?,
+            shared_form(alloc, g, from, to)?,
         )),
         Form::Or(f, g) => Ok(Form::Or(
-            boxed_form(alloc, f, from, to)?,
-            boxed_form(alloc, g, from, to)?,
+            shared_form(alloc, f, from, to)?,
+            shared_form(alloc, g, from, to)?,
         )),
         Form::Imp(f, g) => Ok(Form::Imp(
-            boxed_form(alloc, f, from, to)?,
-            boxed_form(alloc, g, from, to)?,
+            shared_form(alloc, f, from, to)?,
+            shared_form(alloc, g, from, to)?,
         )),
         Form::Iff(f, g) => Ok(Form::Iff(
-            boxed_form(alloc, f, from, to)?,
-            boxed_form(alloc, g, from, to)?,
+            shared_form(alloc, f, from, to)?,
+            shared_form(alloc, g, from, to)?,
         )),
-        Form::All(s, f) => Ok(Form::All(s.copy(alloc)?, boxed_form(alloc, f, from, to)?)),
-        Form::Ex(s, f) => Ok(Form::Ex(s.copy(alloc)?, boxed_form(alloc, f, from, to)?)),
+        Form::All(s, f) => Ok(Form::All(s.copy(alloc)?, shared_form(alloc, f, from, to)?)),
+        Form::Ex(s, f) => Ok(Form::Ex(s.copy(alloc)?, shared_form(alloc, f, from, to)?)),
         Form::After(a, f) => Ok(Form::After(
-            boxed_prog(alloc, a, from, to)?,
-            boxed_form(alloc, f, from, to)?,
+            shared_prog(alloc, a, from, to)?,
+            shared_form(alloc, f, from, to)?,
         )),
         Form::Can(a, f) => Ok(Form::Can(
-            boxed_prog(alloc, a, from, to)?,
-            boxed_form(alloc, f, from, to)?,
+            shared_prog(alloc, a, from, to)?,
+            shared_form(alloc, f, from, to)?,
         )),
     }
 }
 
 #[cycle(form_renamed)]
-fn boxed_form(
+fn shared_form(
     alloc: Global,
-    form: &Boxed<Form>,
+    form: &Shared<Form>,
     from: &Var,
     to: &Name,
-) -> Result<Boxed<Form>, NoMemory>
+) -> Result<Shared<Form>, NoMemory>
     ensures { IfOk result (λ f. (k : ℕ) → plain_form f ≡ changed_form (renamed from.now to.now) k (plain_form form.now)) }
 {
-    boxed(alloc, form_renamed(alloc, form.get(), from, to)?)
+    Shared::new(alloc, form_renamed(alloc, form.get(), from, to)?)
 }
 
 #[cycle(form_renamed)]
@@ -142,43 +148,43 @@ fn prog_renamed(alloc: Global, prog: &Prog, from: &Var, to: &Name) -> Result<Pro
             term_renamed(alloc, t, from, to)?,
         )),
         Prog::Seq(a, b) => Ok(Prog::Seq(
-            boxed_prog(alloc, a, from, to)?,
-            boxed_prog(alloc, b, from, to)?,
+            shared_prog(alloc, a, from, to)?,
+            shared_prog(alloc, b, from, to)?,
         )),
         Prog::If(e, a, b) => Ok(Prog::If(
-            boxed_form(alloc, e, from, to)?,
-            boxed_prog(alloc, a, from, to)?,
-            boxed_prog(alloc, b, from, to)?,
+            shared_form(alloc, e, from, to)?,
+            shared_prog(alloc, a, from, to)?,
+            shared_prog(alloc, b, from, to)?,
         )),
         Prog::While(e, a) => Ok(Prog::While(
-            boxed_form(alloc, e, from, to)?,
-            boxed_prog(alloc, a, from, to)?,
+            shared_form(alloc, e, from, to)?,
+            shared_prog(alloc, a, from, to)?,
         )),
         Prog::Local(s, t, a) => Ok(Prog::Local(
             s.copy(alloc)?,
             term_renamed(alloc, t, from, to)?,
-            boxed_prog(alloc, a, from, to)?,
+            shared_prog(alloc, a, from, to)?,
         )),
         Prog::Call(p, ts, rs) => Ok(Prog::Call(
             p.copy(alloc)?,
-            terms_renamed(alloc, ts.items(), from, to)?,
-            refs_renamed(alloc, rs.items(), from, to)?,
+            shared_terms(alloc, ts, from, to)?,
+            Shared::new(alloc, refs_renamed(alloc, rs.items(), from, to)?)?,
         )),
         Prog::Choice(a, b) => Ok(Prog::Choice(
-            boxed_prog(alloc, a, from, to)?,
-            boxed_prog(alloc, b, from, to)?,
+            shared_prog(alloc, a, from, to)?,
+            shared_prog(alloc, b, from, to)?,
         )),
     }
 }
 
 #[cycle(form_renamed)]
-fn boxed_prog(
+fn shared_prog(
     alloc: Global,
-    prog: &Boxed<Prog>,
+    prog: &Shared<Prog>,
     from: &Var,
     to: &Name,
-) -> Result<Boxed<Prog>, NoMemory>
+) -> Result<Shared<Prog>, NoMemory>
     ensures { IfOk result (λ a. (k : ℕ) → plain_prog a ≡ changed_prog (renamed from.now to.now) k (plain_prog prog.now)) }
 {
-    boxed(alloc, prog_renamed(alloc, prog.get(), from, to)?)
+    Shared::new(alloc, prog_renamed(alloc, prog.get(), from, to)?)
 }

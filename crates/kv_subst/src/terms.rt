@@ -8,7 +8,7 @@ ghost use Rattle.kv_subst.specs.Work.{change_of, most_of};
 
 use crate::changes::Work;
 use crate::places::place_changed;
-use kv_syn::{List, NoMemory, Plain, Term};
+use kv_syn::{List, NoMemory, Plain, Shared, Term};
 use std::alloc::Global;
 
 #[cycle(term_changed)]
@@ -23,15 +23,25 @@ pub(crate) fn term_changed(
 {
     match term {
         Term::Place(r) => place_changed(alloc, r, work, depth),
-        Term::App(f, ts) => Ok(Term::App(
-            f.copy(alloc)?,
-            terms_changed(alloc, ts.items(), work, depth)?,
-        )),
+        Term::App(f, ts) => Ok(Term::App(f.copy(alloc)?, shared_terms(alloc, ts, work, depth)?)),
     }
 }
 
 #[cycle(term_changed)]
-pub(crate) fn terms_changed(
+pub(crate) fn shared_terms(
+    alloc: Global,
+    terms: &Shared<List<Term>>,
+    work: &Work<'_>,
+    depth: u32,
+) -> Result<Shared<List<Term>>, NoMemory>
+    requires { terms_top (most_of work.now depth) (plain_terms terms.now) < 2 ^ 32 }
+    ensures { IfOk result (λ ts. plain_terms ts ≡ changed_terms (change_of work.now depth) (plain_terms terms.now)) }
+{
+    Shared::new(alloc, terms_changed(alloc, terms.items(), work, depth)?)
+}
+
+#[cycle(term_changed)]
+fn terms_changed(
     alloc: Global,
     terms: &[Term],
     work: &Work<'_>,

@@ -1,5 +1,5 @@
 -- No tree has more binders in one another than it is deep.
-use Rattle.std.proofs.Common.{ℕ, ◌≤◌, arith}
+use Rattle.std.proofs.Common.{◌≤◌, arith}
 use Rattle.kv_syn.specs.Count.{form_depth, prog_depth}
 use Rattle.kv_syn.specs.Trees.{Form, Prog}
 use Rattle.kv_syn.specs.Variables.{form_binders, prog_binders}

@@ -1,7 +1,6 @@
 -- Induction over terms, a case for each constructor.
-use Rattle.std.proofs.Common.{◌≡◌, ℕ, ◌+◌, List, [], ◌∷◌, map, ap, refl, sym, ◌∙◌, subst, arith}
+use Rattle.std.proofs.Common.{ℕ, List, map, sym, subst}
 use Rattle.kv_syn.specs.declared.trees.Ref.{Ref}
-use Rattle.kv_syn.specs.declared.trees.Ref.TheVariants.{Free, Bound}
 use Rattle.kv_syn.specs.declared.trees.Term.{Term, Term-F, ind-Term, roll-Term, fold-roll-Term}
 use Rattle.kv_syn.specs.declared.trees.Term as T
 use Rattle.kv_syn.specs.declared.trees.Term.TheOpen as O

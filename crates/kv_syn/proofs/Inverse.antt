@@ -1,7 +1,7 @@
 -- The plain trees are the trees of the code.
-use Rattle.std.proofs.Common.{◌≡◌, ℕ, List, [], ◌∷◌, refl, ap, ap₂, subst, ◌∙◌, sym}
+use Rattle.std.proofs.Common.{◌≡◌, List, [], ◌∷◌, refl, ap, ap₂, subst, ◌∙◌, sym}
 use Rattle.kv_syn.specs.Trees as P
-use Rattle.kv_syn.specs.Bridge.{terms_of, plain_term, plain_terms, plain_term_step, plain_form, plain_prog, plain_form_step, plain_prog_step}
+use Rattle.kv_syn.specs.Bridge.{plain_term, plain_terms, plain_term_step, plain_form, plain_prog, plain_form_step, plain_prog_step}
 use Rattle.kv_syn.specs.declared.trees.Term.{Term}
 use Rattle.kv_syn.specs.declared.trees.Term.TheOpen as O
 use Rattle.kv_syn.specs.declared.trees.Term.TheVariants.{rolls-Place, rolls-App}

@@ -1,5 +1,5 @@
 -- The trees of the code as plain data.
-use Rattle.std.specs.Prelude.{ℕ, List, [], ◌∷◌, map}
+use Rattle.std.specs.Prelude.{List, [], ◌∷◌, map}
 use Rattle.kv_syn.specs.Trees as P
 use Rattle.kv_syn.specs.declared.trees.Term.{Term, fold-Term}
 use Rattle.kv_syn.specs.declared.trees.Term.TheOpen.{Term-F, Place, App}

@@ -1,5 +1,5 @@
 -- Units and projects as plain data.
-use Rattle.std.specs.Prelude.{ℕ, Bool, List, Option}
+use Rattle.std.specs.Prelude.{Bool, List, Option}
 use Rattle.kv_syn.specs.Trees.{Name}
 use Rattle.kv_syn.specs.RawTrees.{RawTerm, RawForm, RawProg}
 use Rattle.kv_syn.specs.Scripts.{Script}

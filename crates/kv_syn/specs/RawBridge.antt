@@ -1,5 +1,5 @@
 -- The raw trees of the code as plain data.
-use Rattle.std.specs.Prelude.{ℕ, List, [], ◌∷◌, map}
+use Rattle.std.specs.Prelude.{List, [], ◌∷◌, map}
 use Rattle.kv_syn.specs.RawTrees as P
 use Rattle.kv_syn.specs.declared.raws.RawTerm.{RawTerm, fold-RawTerm}
 use Rattle.kv_syn.specs.declared.raws.RawTerm.TheOpen.{RawTerm-F, App}

@@ -1,5 +1,5 @@
 -- How many nodes a raw tree has, and how deep it is. Names, references and sorts are no nodes; a leaf has depth 1.
-use Rattle.std.specs.Prelude.{ℕ, ◌+◌, max, List, [], ◌∷◌}
+use Rattle.std.specs.Prelude.{ℕ, ◌+◌, max}
 use Rattle.kv_syn.specs.RawTrees.{RawTerm, RawTerms, RawForm, RawProg}
 
 abbrev mutual

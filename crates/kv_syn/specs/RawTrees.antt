@@ -1,5 +1,5 @@
 -- Trees as texts spell them, as plain data.
-use Rattle.std.specs.Prelude.{ℕ, List}
+use Rattle.std.specs.Prelude.{List}
 use Rattle.kv_syn.specs.Trees.{Name}
 use Rattle.kv_syn.specs.declared.symbols.Var.{Var}
 

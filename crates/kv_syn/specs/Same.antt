@@ -1,5 +1,5 @@
 -- Whether two trees are equal, as a test.
-use Rattle.std.specs.Prelude.{ℕ, Bool, true, false, ◌&&◌, ◌==◌, List}
+use Rattle.std.specs.Prelude.{Bool, true, false, ◌&&◌, ◌==◌, List}
 use Rattle.std.specs.Str.{bytes_eq}
 use Rattle.std.specs.Cmp.Lexicographic.{pointwise}
 use Rattle.kv_syn.specs.Trees.{Name, Term, Terms, Form, Prog}

@@ -1,1 +1,2 @@
 pub mod lists
+pub mod shared

@@ -5,7 +5,6 @@ ghost use Rattle.std.specs.Borrow.{sem};
 
 use crate::memory::NoMemory;
 use crate::plain::Plain;
-use sqlite_items::Boxed;
 use std::alloc::Global;
 use std::marker::Model;
 
@@ -95,11 +94,4 @@ impl<T: Plain + Drop> Plain for List<T> {
         }
         true
     }
-}
-
-/// The value on the heap.
-pub fn boxed<T: Drop>(alloc: Global, value: T) -> Result<Boxed<T>, NoMemory>
-    ensures { IfOk result (λ b. b ≡ value) }
-{
-    Ok(Boxed::new(alloc, value)?)
 }

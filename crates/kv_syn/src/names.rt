@@ -4,6 +4,7 @@ ghost use Rattle.std.specs.Prelude.{◌≡◌, IfOk, IsTrue, ◌↔◌, OnOk, On
 
 use crate::memory::NoMemory;
 use crate::plain::Plain;
+use crate::shared::Shared;
 use std::alloc::Global;
 use std::marker::Model;
 
@@ -70,7 +71,7 @@ impl Plain for Bytes {
 /// A name of a symbol, variable, unit or theorem. Contracts see its bytes, by which names are compared.
 #[derive(Debug, Drop)]
 pub struct Name {
-    text: Bytes,
+    text: Shared<Bytes>,
 }
 
 impl Model for Name {
@@ -86,8 +87,9 @@ impl Name {
     pub fn from_bytes(alloc: Global, text: &[u8]) -> Result<Name, NoMemory>
         ensures { IfOk result (λ n. n ≡ text.now) }
     {
+        let bytes = Bytes::from_bytes(alloc, text)?;
         Ok(Name {
-            text: Bytes::from_bytes(alloc, text)?,
+            text: Shared::new(alloc, bytes)?,
         })
     }
 
@@ -95,13 +97,15 @@ impl Name {
     pub fn bytes(&self) -> &[u8]
         ensures { result.now ≡ self.now }
     {
-        self.text.bytes()
+        self.text.get().bytes()
     }
 }
 
 impl Plain for Name {
-    fn copy(&self, alloc: Global) -> Result<Name, NoMemory> {
-        Name::from_bytes(alloc, self.bytes())
+    fn copy(&self, _alloc: Global) -> Result<Name, NoMemory> {
+        Ok(Name {
+            text: self.text.share()?,
+        })
     }
 
     fn same(&self, other: &Name) -> bool {
@@ -112,7 +116,7 @@ impl Plain for Name {
 /// A label of an axiom, theorem or obligation: names with `.` or `:` between them. Contracts see its bytes.
 #[derive(Debug, Drop)]
 pub struct Label {
-    text: Bytes,
+    text: Shared<Bytes>,
 }
 
 impl Model for Label {
@@ -128,8 +132,9 @@ impl Label {
     pub fn from_bytes(alloc: Global, text: &[u8]) -> Result<Label, NoMemory>
         ensures { IfOk result (λ l. l ≡ text.now) }
     {
+        let bytes = Bytes::from_bytes(alloc, text)?;
         Ok(Label {
-            text: Bytes::from_bytes(alloc, text)?,
+            text: Shared::new(alloc, bytes)?,
         })
     }
 
@@ -137,13 +142,15 @@ impl Label {
     pub fn bytes(&self) -> &[u8]
         ensures { result.now ≡ self.now }
     {
-        self.text.bytes()
+        self.text.get().bytes()
     }
 }
 
 impl Plain for Label {
-    fn copy(&self, alloc: Global) -> Result<Label, NoMemory> {
-        Label::from_bytes(alloc, self.bytes())
+    fn copy(&self, _alloc: Global) -> Result<Label, NoMemory> {
+        Ok(Label {
+            text: self.text.share()?,
+        })
     }
 
     fn same(&self, other: &Label) -> bool {

@@ -2,13 +2,13 @@
 
 use crate::lists::List;
 use crate::names::Name;
+use crate::shared::Shared;
 use crate::symbols::Var;
-use sqlite_items::Boxed;
 
 /// A name with arguments. A variable or a constant has none.
 #[derive(Drop)]
 pub enum RawTerm {
-    App(Name, List<RawTerm>),
+    App(Name, Shared<List<RawTerm>>),
 }
 
 /// A formula by names. A quantifier holds its variable with its sort.
@@ -17,17 +17,17 @@ pub enum RawTerm {
 pub enum RawForm {
     True,
     False,
-    Atom(Name, List<RawTerm>),
+    Atom(Name, Shared<List<RawTerm>>),
     Equal(RawTerm, RawTerm),
-    Not(Boxed<RawForm>),
-    And(Boxed<RawForm>, Boxed<RawForm>),
-    Or(Boxed<RawForm>, Boxed<RawForm>),
-    Imp(Boxed<RawForm>, Boxed<RawForm>),
-    Iff(Boxed<RawForm>, Boxed<RawForm>),
-    All(Var, Boxed<RawForm>),
-    Ex(Var, Boxed<RawForm>),
-    After(Boxed<RawProg>, Boxed<RawForm>),
-    Can(Boxed<RawProg>, Boxed<RawForm>),
+    Not(Shared<RawForm>),
+    And(Shared<RawForm>, Shared<RawForm>),
+    Or(Shared<RawForm>, Shared<RawForm>),
+    Imp(Shared<RawForm>, Shared<RawForm>),
+    Iff(Shared<RawForm>, Shared<RawForm>),
+    All(Var, Shared<RawForm>),
+    Ex(Var, Shared<RawForm>),
+    After(Shared<RawProg>, Shared<RawForm>),
+    Can(Shared<RawProg>, Shared<RawForm>),
 }
 
 /// A program by names.
@@ -37,10 +37,10 @@ pub enum RawProg {
     Skip,
     Abort,
     Assign(Name, RawTerm),
-    Seq(Boxed<RawProg>, Boxed<RawProg>),
-    If(Boxed<RawForm>, Boxed<RawProg>, Boxed<RawProg>),
-    While(Boxed<RawForm>, Boxed<RawProg>),
-    Local(Var, RawTerm, Boxed<RawProg>),
-    Call(Name, List<RawTerm>, List<Name>),
-    Choice(Boxed<RawProg>, Boxed<RawProg>),
+    Seq(Shared<RawProg>, Shared<RawProg>),
+    If(Shared<RawForm>, Shared<RawProg>, Shared<RawProg>),
+    While(Shared<RawForm>, Shared<RawProg>),
+    Local(Var, RawTerm, Shared<RawProg>),
+    Call(Name, Shared<List<RawTerm>>, Shared<List<Name>>),
+    Choice(Shared<RawProg>, Shared<RawProg>),
 }

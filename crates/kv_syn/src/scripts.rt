@@ -5,6 +5,7 @@ ghost use Rattle.std.specs.Prelude.{◌<◌};
 use crate::lists::List;
 use crate::names::{Label, Name};
 use crate::raws::{RawForm, RawTerm};
+use crate::shared::Shared;
 use crate::trees::{Form, Term};
 
 /// A side of a sequent.
@@ -59,7 +60,7 @@ pub struct TypedStep {
 #[derive(Drop)]
 pub enum Script {
     Hole,
-    Node(Step, List<Script>),
+    Node(Step, Shared<List<Script>>),
 }
 
 /// A place in a script: which child to take at each step from the root, counted from 1. The root's is empty.

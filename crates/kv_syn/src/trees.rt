@@ -2,8 +2,8 @@
 
 use crate::lists::List;
 use crate::names::Name;
+use crate::shared::Shared;
 use crate::symbols::{Callee, Var};
-use sqlite_items::Boxed;
 
 /// A place for a variable: free, with its name and sort, or bound, by the number of binders between the place
 /// and its own binder (0 for the innermost).
@@ -17,7 +17,7 @@ pub enum Ref {
 #[derive(Drop)]
 pub enum Term {
     Place(Ref),
-    App(Name, List<Term>),
+    App(Name, Shared<List<Term>>),
 }
 
 /// A formula of Dynamic Logic. The name in a quantifier is the sort of its variable, which its body reaches by
@@ -27,19 +27,19 @@ pub enum Term {
 pub enum Form {
     True,
     False,
-    Atom(Name, List<Term>),
+    Atom(Name, Shared<List<Term>>),
     Equal(Term, Term),
-    Not(Boxed<Form>),
-    And(Boxed<Form>, Boxed<Form>),
-    Or(Boxed<Form>, Boxed<Form>),
-    Imp(Boxed<Form>, Boxed<Form>),
-    Iff(Boxed<Form>, Boxed<Form>),
-    All(Name, Boxed<Form>),
-    Ex(Name, Boxed<Form>),
+    Not(Shared<Form>),
+    And(Shared<Form>, Shared<Form>),
+    Or(Shared<Form>, Shared<Form>),
+    Imp(Shared<Form>, Shared<Form>),
+    Iff(Shared<Form>, Shared<Form>),
+    All(Name, Shared<Form>),
+    Ex(Name, Shared<Form>),
     /// The box: after every run of the program that ends, the formula holds.
-    After(Boxed<Prog>, Boxed<Form>),
+    After(Shared<Prog>, Shared<Form>),
     /// The diamond: the program can end in a state where the formula holds.
-    Can(Boxed<Prog>, Boxed<Form>),
+    Can(Shared<Prog>, Shared<Form>),
 }
 
 /// A program.
@@ -49,15 +49,15 @@ pub enum Prog {
     Skip,
     Abort,
     Assign(Ref, Term),
-    Seq(Boxed<Prog>, Boxed<Prog>),
-    If(Boxed<Form>, Boxed<Prog>, Boxed<Prog>),
-    While(Boxed<Form>, Boxed<Prog>),
+    Seq(Shared<Prog>, Shared<Prog>),
+    If(Shared<Form>, Shared<Prog>, Shared<Prog>),
+    While(Shared<Form>, Shared<Prog>),
     /// A block with a variable of its own, of that sort and with that first value, which its body reaches by number.
-    Local(Name, Term, Boxed<Prog>),
+    Local(Name, Term, Shared<Prog>),
     /// A call: the values, and the variables for the references.
-    Call(Callee, List<Term>, List<Ref>),
+    Call(Callee, Shared<List<Term>>, Shared<List<Ref>>),
     /// Either of the two.
-    Choice(Boxed<Prog>, Boxed<Prog>),
+    Choice(Shared<Prog>, Shared<Prog>),
 }
 
 /// What is to be shown: if all of the left holds, some of the right does.

@@ -15,6 +15,3 @@ mod tables;
 
 pub use names::Names;
 pub use tables::{commands, keywords, reasons, rules, states};
-
-#[cfg(test)]
-mod tests;

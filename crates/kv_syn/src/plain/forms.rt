@@ -2,16 +2,28 @@
 
 ghost use Rattle.std.specs.Prelude.{◌≡◌, ◌↔◌, IfOk, IsTrue};
 
-use crate::lists::boxed;
 use crate::memory::NoMemory;
 use crate::plain::Plain;
 use crate::trees::{Form, Prog};
-use sqlite_items::Boxed;
 use std::alloc::Global;
 
 impl Plain for Form {
     fn copy(&self, alloc: Global) -> Result<Form, NoMemory> {
-        copy_form(alloc, self)
+        match self {
+            Form::True => Ok(Form::True),
+            Form::False => Ok(Form::False),
+            Form::Atom(p, ts) => Ok(Form::Atom(p.copy(alloc)?, ts.copy(alloc)?)),
+            Form::Equal(t, u) => Ok(Form::Equal(t.copy(alloc)?, u.copy(alloc)?)),
+            Form::Not(f) => Ok(Form::Not(f.share()?)),
+            Form::And(f, g) => Ok(Form::And(f.share()?, g.share()?)),
+            Form::Or(f, g) => Ok(Form::Or(f.share()?, g.share()?)),
+            Form::Imp(f, g) => Ok(Form::Imp(f.share()?, g.share()?)),
+            Form::Iff(f, g) => Ok(Form::Iff(f.share()?, g.share()?)),
+            Form::All(s, f) => Ok(Form::All(s.copy(alloc)?, f.share()?)),
+            Form::Ex(s, f) => Ok(Form::Ex(s.copy(alloc)?, f.share()?)),
+            Form::After(a, f) => Ok(Form::After(a.share()?, f.share()?)),
+            Form::Can(a, f) => Ok(Form::Can(a.share()?, f.share()?)),
+        }
     }
 
     fn same(&self, other: &Form) -> bool {
@@ -21,72 +33,26 @@ impl Plain for Form {
 
 impl Plain for Prog {
     fn copy(&self, alloc: Global) -> Result<Prog, NoMemory> {
-        copy_prog(alloc, self)
+        match self {
+            Prog::Skip => Ok(Prog::Skip),
+            Prog::Abort => Ok(Prog::Abort),
+            Prog::Assign(x, t) => Ok(Prog::Assign(x.copy(alloc)?, t.copy(alloc)?)),
+            Prog::Seq(a, b) => Ok(Prog::Seq(a.share()?, b.share()?)),
+            Prog::If(e, a, b) => Ok(Prog::If(e.share()?, a.share()?, b.share()?)),
+            Prog::While(e, a) => Ok(Prog::While(e.share()?, a.share()?)),
+            Prog::Local(s, t, a) => Ok(Prog::Local(s.copy(alloc)?, t.copy(alloc)?, a.share()?)),
+            Prog::Call(p, ts, rs) => Ok(Prog::Call(
+                p.copy(alloc)?,
+                ts.copy(alloc)?,
+                rs.copy(alloc)?,
+            )),
+            Prog::Choice(a, b) => Ok(Prog::Choice(a.share()?, b.share()?)),
+        }
     }
 
     fn same(&self, other: &Prog) -> bool {
         same_prog(self, other)
     }
-}
-
-#[cycle(copy_form)]
-fn copy_form(alloc: Global, form: &Form) -> Result<Form, NoMemory>
-    ensures { IfOk result (λ x. x ≡ form.now) }
-{
-    match form {
-        Form::True => Ok(Form::True),
-        Form::False => Ok(Form::False),
-        Form::Atom(p, ts) => Ok(Form::Atom(p.copy(alloc)?, ts.copy(alloc)?)),
-        Form::Equal(t, u) => Ok(Form::Equal(t.copy(alloc)?, u.copy(alloc)?)),
-        Form::Not(f) => Ok(Form::Not(boxed_form(alloc, f)?)),
-        Form::And(f, g) => Ok(Form::And(boxed_form(alloc, f)?, boxed_form(alloc, g)?)),
-        Form::Or(f, g) => Ok(Form::Or(boxed_form(alloc, f)?, boxed_form(alloc, g)?)),
-        Form::Imp(f, g) => Ok(Form::Imp(boxed_form(alloc, f)?, boxed_form(alloc, g)?)),
-        Form::Iff(f, g) => Ok(Form::Iff(boxed_form(alloc, f)?, boxed_form(alloc, g)?)),
-        Form::All(s, f) => Ok(Form::All(s.copy(alloc)?, boxed_form(alloc, f)?)),
-        Form::Ex(s, f) => Ok(Form::Ex(s.copy(alloc)?, boxed_form(alloc, f)?)),
-        Form::After(a, f) => Ok(Form::After(boxed_prog(alloc, a)?, boxed_form(alloc, f)?)),
-        Form::Can(a, f) => Ok(Form::Can(boxed_prog(alloc, a)?, boxed_form(alloc, f)?)),
-    }
-}
-
-#[cycle(copy_form)]
-fn boxed_form(alloc: Global, form: &Boxed<Form>) -> Result<Boxed<Form>, NoMemory>
-    ensures { IfOk result (λ x. x ≡ form.now) }
-{
-    boxed(alloc, copy_form(alloc, form.get())?)
-}
-
-#[cycle(copy_form)]
-fn copy_prog(alloc: Global, prog: &Prog) -> Result<Prog, NoMemory>
-    ensures { IfOk result (λ x. x ≡ prog.now) }
-{
-    match prog {
-        Prog::Skip => Ok(Prog::Skip),
-        Prog::Abort => Ok(Prog::Abort),
-        Prog::Assign(x, t) => Ok(Prog::Assign(x.copy(alloc)?, t.copy(alloc)?)),
-        Prog::Seq(a, b) => Ok(Prog::Seq(boxed_prog(alloc, a)?, boxed_prog(alloc, b)?)),
-        Prog::If(e, a, b) => Ok(Prog::If(
-            boxed_form(alloc, e)?,
-            boxed_prog(alloc, a)?,
-            boxed_prog(alloc, b)?,
-        )),
-        Prog::While(e, a) => Ok(Prog::While(boxed_form(alloc, e)?, boxed_prog(alloc, a)?)),
-        Prog::Local(s, t, a) => Ok(Prog::Local(
-            s.copy(alloc)?,
-            t.copy(alloc)?,
-            boxed_prog(alloc, a)?,
-        )),
-        Prog::Call(p, ts, rs) => Ok(Prog::Call(p.copy(alloc)?, ts.copy(alloc)?, rs.copy(alloc)?)),
-        Prog::Choice(a, b) => Ok(Prog::Choice(boxed_prog(alloc, a)?, boxed_prog(alloc, b)?)),
-    }
-}
-
-#[cycle(copy_form)]
-fn boxed_prog(alloc: Global, prog: &Boxed<Prog>) -> Result<Boxed<Prog>, NoMemory>
-    ensures { IfOk result (λ x. x ≡ prog.now) }
-{
-    boxed(alloc, copy_prog(alloc, prog.get())?)
 }
 
 #[cycle(same_form)]

@@ -10,36 +10,15 @@ use std::alloc::Global;
 
 impl Plain for Script {
     fn copy(&self, alloc: Global) -> Result<Script, NoMemory> {
-        copy_script(alloc, self)
+        match self {
+            Script::Hole => Ok(Script::Hole),
+            Script::Node(step, children) => Ok(Script::Node(step.copy(alloc)?, children.share()?)),
+        }
     }
 
     fn same(&self, other: &Script) -> bool {
         same_script(self, other)
     }
-}
-
-#[cycle(copy_script)]
-fn copy_script(alloc: Global, script: &Script) -> Result<Script, NoMemory>
-    ensures { IfOk result (λ x. x ≡ script.now) }
-{
-    match script {
-        Script::Hole => Ok(Script::Hole),
-        Script::Node(step, children) => Ok(Script::Node(
-            step.copy(alloc)?,
-            copy_scripts(alloc, children.items())?,
-        )),
-    }
-}
-
-#[cycle(copy_script)]
-fn copy_scripts(alloc: Global, scripts: &[Script]) -> Result<List<Script>, NoMemory>
-    ensures { IfOk result (λ xs. xs ≡ scripts.now) }
-{
-    let mut copied = List::new(alloc);
-    for script in scripts {
-        copied.push(copy_script(alloc, script)?)?;
-    }
-    Ok(copied)
 }
 
 #[cycle(same_script)]

@@ -3,6 +3,7 @@
 use crate::memory::NoMemory;
 use crate::outcomes::{Entry, Fault, Look, Need, Outcome, Reason, Row, State, Table, UnitState};
 use crate::plain::Plain;
+use crate::plain::groups::copy_three;
 use std::alloc::Global;
 
 impl Plain for Need {
@@ -20,12 +21,13 @@ impl Plain for Need {
 
 impl Plain for Entry {
     fn copy(&self, alloc: Global) -> Result<Entry, NoMemory> {
+        let (label, needs, form) = copy_three(alloc, &self.label, &self.needs, &self.form)?;
         Ok(Entry {
-            label: self.label.copy(alloc)?,
-            form: self.form.copy(alloc)?,
-            simp: self.simp.copy(alloc)?,
-            axiom: self.axiom.copy(alloc)?,
-            needs: self.needs.copy(alloc)?,
+            label,
+            form,
+            simp: self.simp,
+            axiom: self.axiom,
+            needs,
         })
     }
 

@@ -2,16 +2,28 @@
 
 ghost use Rattle.std.specs.Prelude.{◌≡◌, ◌↔◌, IfOk, IsTrue};
 
-use crate::lists::boxed;
 use crate::memory::NoMemory;
 use crate::plain::Plain;
 use crate::raws::{RawForm, RawProg};
-use sqlite_items::Boxed;
 use std::alloc::Global;
 
 impl Plain for RawForm {
     fn copy(&self, alloc: Global) -> Result<RawForm, NoMemory> {
-        copy_raw_form(alloc, self)
+        match self {
+            RawForm::True => Ok(RawForm::True),
+            RawForm::False => Ok(RawForm::False),
+            RawForm::Atom(p, ts) => Ok(RawForm::Atom(p.copy(alloc)?, ts.copy(alloc)?)),
+            RawForm::Equal(t, u) => Ok(RawForm::Equal(t.copy(alloc)?, u.copy(alloc)?)),
+            RawForm::Not(f) => Ok(RawForm::Not(f.share()?)),
+            RawForm::And(f, g) => Ok(RawForm::And(f.share()?, g.share()?)),
+            RawForm::Or(f, g) => Ok(RawForm::Or(f.share()?, g.share()?)),
+            RawForm::Imp(f, g) => Ok(RawForm::Imp(f.share()?, g.share()?)),
+            RawForm::Iff(f, g) => Ok(RawForm::Iff(f.share()?, g.share()?)),
+            RawForm::All(v, f) => Ok(RawForm::All(v.copy(alloc)?, f.share()?)),
+            RawForm::Ex(v, f) => Ok(RawForm::Ex(v.copy(alloc)?, f.share()?)),
+            RawForm::After(a, f) => Ok(RawForm::After(a.share()?, f.share()?)),
+            RawForm::Can(a, f) => Ok(RawForm::Can(a.share()?, f.share()?)),
+        }
     }
 
     fn same(&self, other: &RawForm) -> bool {
@@ -21,100 +33,30 @@ impl Plain for RawForm {
 
 impl Plain for RawProg {
     fn copy(&self, alloc: Global) -> Result<RawProg, NoMemory> {
-        copy_raw_prog(alloc, self)
+        match self {
+            RawProg::Skip => Ok(RawProg::Skip),
+            RawProg::Abort => Ok(RawProg::Abort),
+            RawProg::Assign(x, t) => Ok(RawProg::Assign(x.copy(alloc)?, t.copy(alloc)?)),
+            RawProg::Seq(a, b) => Ok(RawProg::Seq(a.share()?, b.share()?)),
+            RawProg::If(e, a, b) => Ok(RawProg::If(e.share()?, a.share()?, b.share()?)),
+            RawProg::While(e, a) => Ok(RawProg::While(e.share()?, a.share()?)),
+            RawProg::Local(s, t, a) => Ok(RawProg::Local(
+                s.copy(alloc)?,
+                t.copy(alloc)?,
+                a.share()?,
+            )),
+            RawProg::Call(p, ts, rs) => Ok(RawProg::Call(
+                p.copy(alloc)?,
+                ts.copy(alloc)?,
+                rs.copy(alloc)?,
+            )),
+            RawProg::Choice(a, b) => Ok(RawProg::Choice(a.share()?, b.share()?)),
+        }
     }
 
     fn same(&self, other: &RawProg) -> bool {
         same_raw_prog(self, other)
     }
-}
-
-#[cycle(copy_raw_form)]
-fn copy_raw_form(alloc: Global, raw_form: &RawForm) -> Result<RawForm, NoMemory>
-    ensures { IfOk result (λ x. x ≡ raw_form.now) }
-{
-    match raw_form {
-        RawForm::True => Ok(RawForm::True),
-        RawForm::False => Ok(RawForm::False),
-        RawForm::Atom(p, ts) => Ok(RawForm::Atom(p.copy(alloc)?, ts.copy(alloc)?)),
-        RawForm::Equal(t, u) => Ok(RawForm::Equal(t.copy(alloc)?, u.copy(alloc)?)),
-        RawForm::Not(f) => Ok(RawForm::Not(boxed_raw_form(alloc, f)?)),
-        RawForm::And(f, g) => Ok(RawForm::And(
-            boxed_raw_form(alloc, f)?,
-            boxed_raw_form(alloc, g)?,
-        )),
-        RawForm::Or(f, g) => Ok(RawForm::Or(boxed_raw_form(alloc, f)?, boxed_raw_form(alloc, g)?)),
-        RawForm::Imp(f, g) => Ok(RawForm::Imp(
-            boxed_raw_form(alloc, f)?,
-            boxed_raw_form(alloc, g)?,
-        )),
-        RawForm::Iff(f, g) => Ok(RawForm::Iff(
-            boxed_raw_form(alloc, f)?,
-            boxed_raw_form(alloc, g)?,
-        )),
-        RawForm::All(v, f) => Ok(RawForm::All(v.copy(alloc)?, boxed_raw_form(alloc, f)?)),
-        RawForm::Ex(v, f) => Ok(RawForm::Ex(v.copy(alloc)?, boxed_raw_form(alloc, f)?)),
-        RawForm::After(a, f) => Ok(RawForm::After(
-            boxed_raw_prog(alloc, a)?,
-            boxed_raw_form(alloc, f)?,
-        )),
-        RawForm::Can(a, f) => Ok(RawForm::Can(
-            boxed_raw_prog(alloc, a)?,
-            boxed_raw_form(alloc, f)?,
-        )),
-    }
-}
-
-#[cycle(copy_raw_form)]
-fn boxed_raw_form(alloc: Global, raw_form: &Boxed<RawForm>) -> Result<Boxed<RawForm>, NoMemory>
-    ensures { IfOk result (λ x. x ≡ raw_form.now) }
-{
-    boxed(alloc, copy_raw_form(alloc, raw_form.get())?)
-}
-
-#[cycle(copy_raw_form)]
-fn copy_raw_prog(alloc: Global, raw_prog: &RawProg) -> Result<RawProg, NoMemory>
-    ensures { IfOk result (λ x. x ≡ raw_prog.now) }
-{
-    match raw_prog {
-        RawProg::Skip => Ok(RawProg::Skip),
-        RawProg::Abort => Ok(RawProg::Abort),
-        RawProg::Assign(x, t) => Ok(RawProg::Assign(x.copy(alloc)?, t.copy(alloc)?)),
-        RawProg::Seq(a, b) => Ok(RawProg::Seq(
-            boxed_raw_prog(alloc, a)?,
-            boxed_raw_prog(alloc, b)?,
-        )),
-        RawProg::If(e, a, b) => Ok(RawProg::If(
-            boxed_raw_form(alloc, e)?,
-            boxed_raw_prog(alloc, a)?,
-            boxed_raw_prog(alloc, b)?,
-        )),
-        RawProg::While(e, a) => Ok(RawProg::While(
-            boxed_raw_form(alloc, e)?,
-            boxed_raw_prog(alloc, a)?,
-        )),
-        RawProg::Local(s, t, a) => Ok(RawProg::Local(
-            s.copy(alloc)?,
-            t.copy(alloc)?,
-            boxed_raw_prog(alloc, a)?,
-        )),
-        RawProg::Call(p, ts, rs) => Ok(RawProg::Call(
-            p.copy(alloc)?,
-            ts.copy(alloc)?,
-            rs.copy(alloc)?,
-        )),
-        RawProg::Choice(a, b) => Ok(RawProg::Choice(
-            boxed_raw_prog(alloc, a)?,
-            boxed_raw_prog(alloc, b)?,
-        )),
-    }
-}
-
-#[cycle(copy_raw_form)]
-fn boxed_raw_prog(alloc: Global, raw_prog: &Boxed<RawProg>) -> Result<Boxed<RawProg>, NoMemory>
-    ensures { IfOk result (λ x. x ≡ raw_prog.now) }
-{
-    boxed(alloc, copy_raw_prog(alloc, raw_prog.get())?)
 }
 
 #[cycle(same_raw_form)]

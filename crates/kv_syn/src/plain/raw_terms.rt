@@ -10,32 +10,14 @@ use std::alloc::Global;
 
 impl Plain for RawTerm {
     fn copy(&self, alloc: Global) -> Result<RawTerm, NoMemory> {
-        copy_raw_term(alloc, self)
+        match self {
+            RawTerm::App(f, ts) => Ok(RawTerm::App(f.copy(alloc)?, ts.share()?)),
+        }
     }
 
     fn same(&self, other: &RawTerm) -> bool {
         same_raw_term(self, other)
     }
-}
-
-#[cycle(copy_raw_term)]
-fn copy_raw_term(alloc: Global, raw_term: &RawTerm) -> Result<RawTerm, NoMemory>
-    ensures { IfOk result (λ x. x ≡ raw_term.now) }
-{
-    match raw_term {
-        RawTerm::App(f, ts) => Ok(RawTerm::App(f.copy(alloc)?, copy_raw_terms(alloc, ts.items())?)),
-    }
-}
-
-#[cycle(copy_raw_term)]
-fn copy_raw_terms(alloc: Global, raw_terms: &[RawTerm]) -> Result<List<RawTerm>, NoMemory>
-    ensures { IfOk result (λ xs. xs ≡ raw_terms.now) }
-{
-    let mut copied = List::new(alloc);
-    for raw_term in raw_terms {
-        copied.push(copy_raw_term(alloc, raw_term)?)?;
-    }
-    Ok(copied)
 }
 
 #[cycle(same_raw_term)]

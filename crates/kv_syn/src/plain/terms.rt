@@ -10,33 +10,15 @@ use std::alloc::Global;
 
 impl Plain for Term {
     fn copy(&self, alloc: Global) -> Result<Term, NoMemory> {
-        copy_term(alloc, self)
+        match self {
+            Term::Place(r) => Ok(Term::Place(r.copy(alloc)?)),
+            Term::App(f, ts) => Ok(Term::App(f.copy(alloc)?, ts.share()?)),
+        }
     }
 
     fn same(&self, other: &Term) -> bool {
         same_term(self, other)
     }
-}
-
-#[cycle(copy_term)]
-fn copy_term(alloc: Global, term: &Term) -> Result<Term, NoMemory>
-    ensures { IfOk result (λ x. x ≡ term.now) }
-{
-    match term {
-        Term::Place(r) => Ok(Term::Place(r.copy(alloc)?)),
-        Term::App(f, ts) => Ok(Term::App(f.copy(alloc)?, copy_terms(alloc, ts.items())?)),
-    }
-}
-
-#[cycle(copy_term)]
-fn copy_terms(alloc: Global, terms: &[Term]) -> Result<List<Term>, NoMemory>
-    ensures { IfOk result (λ xs. xs ≡ terms.now) }
-{
-    let mut copied = List::new(alloc);
-    for term in terms {
-        copied.push(copy_term(alloc, term)?)?;
-    }
-    Ok(copied)
 }
 
 #[cycle(same_term)]

@@ -205,9 +205,8 @@ impl Plain for Mod {
                 two,
                 equal,
             } => {
-                let first = copy_four(alloc, from, to, place, restrict)?;
-                let (one, two, equal) = copy_three(alloc, one, two, equal)?;
-                let (from, to, place, restrict) = first;
+                let (from, to, place) = copy_three(alloc, from, to, place)?;
+                let (one, two, restrict, equal) = copy_four(alloc, one, two, restrict, equal)?;
                 Ok(Mod::Sort {
                     from,
                     to,
@@ -236,9 +235,8 @@ impl Plain for Mod {
                 zero,
                 suc,
             } => {
-                let first = copy_four(alloc, sort, place, size, one)?;
-                let (two, below, zero, suc) = copy_four(alloc, two, below, zero, suc)?;
-                let (sort, place, size, one) = first;
+                let (sort, place, one, two) = copy_four(alloc, sort, place, one, two)?;
+                let (zero, suc, size, below) = copy_four(alloc, zero, suc, size, below)?;
                 Ok(Mod::Measure {
                     sort,
                     place,

@@ -16,15 +16,15 @@ pub term_within-returns-in_err-name-clause-reads : goal.term_within-returns-in_e
 term_within-returns-in_err-name-clause-reads t c =
     rw (term_step c.args.height c.args.brackets (kinds c.args.tokens.now) (omega arith)) (first_of (search rules, grind (arith, common_steps)))
 
-pub term_within-returns-in-Ok-clause-reads : goal.term_within-returns-in-Ok-clause-reads
-term_within-returns-in-Ok-clause-reads t c =
-    applied_some c.args.height c.args.brackets (kinds c.args.tokens.now) (kinds c.in_ok-name.rest.now) c.in_ok-name.name (raw_term c.application.result) (omega arith) c.in_ok-name.ensures
-    (raw_terms c.in-Ok.args.tree) (kinds c.in-Ok.args.rest.now) c.in-Ok.ensures.reads c.application.ensures.made
+pub term_within-returns-in_ok-tree-in-Ok-clause-reads : goal.term_within-returns-in_ok-tree-in-Ok-clause-reads
+term_within-returns-in_ok-tree-in-Ok-clause-reads t c =
+    applied_some c.args.height c.args.brackets (kinds c.args.tokens.now) (kinds c.in_ok-name.rest.now) c.in_ok-name.name (raw_term c.in_ok-tree-in-Ok.tree) (omega arith) c.in_ok-name.ensures
+    (raw_terms c.in-Ok.args.tree) (kinds c.in-Ok.args.rest.now) c.in-Ok.ensures.reads c.in_ok-tree-in-Ok.ensures.made
 
-pub term_within-returns-in-Err-Syntax-clause-reads : goal.term_within-returns-in-Err-Syntax-clause-reads
-term_within-returns-in-Err-Syntax-clause-reads t c =
-    applied_none c.args.height c.args.brackets (kinds c.args.tokens.now) (kinds c.in_ok-name.rest.now) c.in_ok-name.name (raw_term c.application-in-Err-Syntax.result) (omega arith) c.in_ok-name.ensures
-    (rw c.in-Err-Syntax.field-0-is at c.in-Err-Syntax.ensures.reads) (c.application-in-Err-Syntax.ensures.made ∙ ap (λ l. RawTree.App c.in_ok-name.name (raw_terms l)) c.new.ensures)
+pub term_within-returns-in_ok-tree-in-Err-Syntax-clause-reads : goal.term_within-returns-in_ok-tree-in-Err-Syntax-clause-reads
+term_within-returns-in_ok-tree-in-Err-Syntax-clause-reads t c =
+    applied_none c.args.height c.args.brackets (kinds c.args.tokens.now) (kinds c.in_ok-name.rest.now) c.in_ok-name.name (raw_term c.in_ok-tree-in-Err-Syntax.tree) (omega arith) c.in_ok-name.ensures
+    (rw c.in-Err-Syntax.field-0-is at c.in-Err-Syntax.ensures.reads) (c.in_ok-tree-in-Err-Syntax.ensures.made ∙ ap (λ l. RawTree.App c.in_ok-name.name (raw_terms l)) c.new.ensures)
 
 pub terms-returns-in_err-next-clause-reads : goal.terms-returns-in_err-next-clause-reads
 terms-returns-in_err-next-clause-reads t c =

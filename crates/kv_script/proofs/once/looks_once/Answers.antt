@@ -1,7 +1,7 @@
-use Rattle.std.proofs.Common.{◌≡◌, ℕ, List, sym}
+use Rattle.std.proofs.Common.{sym}
 use Rattle.kv_script.specs.Once.{look_eq}
 use Rattle.kv_script.proofs.Keys.{Asks, asked_eq, asks_agree}
-use Rattle.kv_script.proofs.Seen.{all_seen, at, ended, left_at, moved, none_more, none_seen, one_more, pushed}
+use Rattle.kv_goal.proofs.Seen.{all_seen, at, ended, left_at, moved, none_more, none_seen, one_more, pushed}
 use Rattle.kv_script.proofs.once.looks_once.Goals as goal
 use Rattle.kv_script.proofs.once.looks_once.Goals.{then-branch+in_ok-look_copy+in_ok-push, else-branch}
 

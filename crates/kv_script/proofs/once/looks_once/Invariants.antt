@@ -1,7 +1,7 @@
 use Rattle.std.proofs.Common.{drop}
 use Rattle.kv_script.specs.Once.{look_eq}
 use Rattle.kv_script.proofs.Keys.{Asks, asked_eq, asks_agree}
-use Rattle.kv_script.proofs.Seen.{SoFar}
+use Rattle.kv_goal.proofs.Seen.{SoFar}
 use Rattle.kv_script.proofs.once.looks_once.Given as goal
 
 abbrev pub invariant-loop-look : goal.invariant-loop-look

@@ -7,16 +7,16 @@ use Rattle.kv_subst.specs.Opening.{renamed}
 use Rattle.kv_subst.proofs.Told.{told}
 use Rattle.kv_subst.proofs.renaming.+form_renamed.Goals as goal
 
-pub boxed_form-returns : goal.boxed_form-returns
-boxed_form-returns t c =
+pub shared_form-returns : goal.shared_form-returns
+shared_form-returns t c =
     let before = c.args.form.now in
     let after = λ (k : ℕ) (f : Form). changed_form (renamed c.args.from.now c.args.to.now) k (plain_form f) in
-    told (λ (f : Form). (k : ℕ) → plain_form f ≡ after k before) c.boxed.result c.in_ok-form_renamed.field-0 c.boxed.ensures
+    told (λ (f : Form). (k : ℕ) → plain_form f ≡ after k before) c.new.result c.in_ok-form_renamed.field-0 c.new.ensures
     (λ k. c.in_ok-form_renamed.ensures k ∙ ap (after k) c.get.ensures)
 
-pub boxed_prog-returns : goal.boxed_prog-returns
-boxed_prog-returns t c =
+pub shared_prog-returns : goal.shared_prog-returns
+shared_prog-returns t c =
     let before = c.args.prog.now in
     let after = λ (k : ℕ) (a : Prog). changed_prog (renamed c.args.from.now c.args.to.now) k (plain_prog a) in
-    told (λ (a : Prog). (k : ℕ) → plain_prog a ≡ after k before) c.boxed.result c.in_ok-prog_renamed.field-0 c.boxed.ensures
+    told (λ (a : Prog). (k : ℕ) → plain_prog a ≡ after k before) c.new.result c.in_ok-prog_renamed.field-0 c.new.ensures
     (λ k. c.in_ok-prog_renamed.ensures k ∙ ap (after k) c.get.ensures)

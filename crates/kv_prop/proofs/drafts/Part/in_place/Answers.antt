@@ -1,6 +1,6 @@
 use Rattle.std.proofs.Common.{◌-◌, ◌∷◌, ◌++◌, map, take, ap, ◌∙◌, arith}
 use Rattle.std.proofs.lemmas.List.{take_rest}
-use Rattle.kv_syn.specs.Bridge.{plain_form}
+use Rattle.kv_goal.specs.Goals.{plain_known}
 use Rattle.kv_prop.specs.Drafts.{form_of}
 use Rattle.kv_prop.proofs.Splits.{split_with}
 use Rattle.kv_prop.proofs.drafts.Part.in_place.Goals as goal
@@ -10,5 +10,5 @@ returns c =
     let forms = c.args.forms.now in
     let place = c.args.place in
     let item = form_of c.args.new in
-    ap (λ ys. map plain_form (take (place - 1) forms) ++ item ∷ map plain_form ys) (take_rest forms place)
-    ∙ split_with _ _ plain_form forms place item (omega arith) (omega arith)
+    ap (λ ys. map plain_known (take (place - 1) forms) ++ item ∷ map plain_known ys) (take_rest forms place)
+    ∙ split_with _ _ plain_known forms place item (omega arith) (omega arith)

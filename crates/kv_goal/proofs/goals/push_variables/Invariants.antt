@@ -1,0 +1,7 @@
+use Rattle.std.proofs.Common.{◌≡◌, ◌++◌, drop, map}
+use Rattle.kv_goal.specs.ByName.{variables_each}
+use Rattle.kv_goal.specs.Goals.{plain_known}
+use Rattle.kv_goal.proofs.goals.push_variables.Given as goal
+
+abbrev pub invariant-loop-known : goal.invariant-loop-known
+invariant-loop-known l = l.all ++ variables_each (map plain_known (drop l.known-index l.knowns)) ≡ l.initial.all ++ variables_each (map plain_known l.knowns)

@@ -1,0 +1,5 @@
+pub mod Once
+pub mod Measures
+pub mod Notes
+pub mod ByName
+pub mod Goals

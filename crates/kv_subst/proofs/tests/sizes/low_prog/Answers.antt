@@ -1,7 +1,0 @@
-use Rattle.std.proofs.Common.{arith}
-use Rattle.kv_syn.specs.Bridge.{plain_prog}
-use Rattle.kv_syn.proofs.Depths.{prog_within}
-use Rattle.kv_subst.proofs.tests.sizes.low_prog.Goals as goal
-
-pub returns-then-depth-le1000 : goal.returns-then-depth-le1000
-returns-then-depth-le1000 c = omega (arith, prog_within (plain_prog c.args.prog.now))

@@ -1,0 +1,5 @@
+//! Nothing but tests of what reaches outside.
+#![tactic(auto)]
+
+#[cfg(test)]
+mod outside;
