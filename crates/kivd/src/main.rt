@@ -5,7 +5,7 @@ ghost use Rattle.std.specs.Prelude.{◌≡◌, ◌<◌};
 
 use kv_io::{FileStore, StdSink, StdSource};
 use kv_syn::Steps;
-use kv_top::{Status, message, run};
+use kv_top::{Status, code, message, run};
 use std::env;
 use std::io::{self, BufReader};
 use std::marker::Brand;
@@ -52,5 +52,5 @@ fn main(rt: HostRuntime) -> ExitCode {
     if status != Status::Done {
         let _ = eprintln!(rt; "kivd: {}", message(status));
     }
-    ExitCode::from(status as u8)
+    ExitCode::from(code(status))
 }

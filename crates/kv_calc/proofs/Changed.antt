@@ -1,8 +1,8 @@
 -- The free variables and the assumed procedures of a changed tree.
 use Rattle.std.proofs.Common.{ℕ, ◌+◌, List, [], ◌∷◌, ◌++◌, map, inl, inr, ◌≡◌, refl}
-use Rattle.kv_syn.specs.Trees.{Term, Terms, Form, Prog}
-use Rattle.kv_syn.specs.declared.symbols.Var.{Var}
-use Rattle.kv_syn.specs.declared.trees.Ref.{Ref}
+use Rattle.kv_trees.specs.Trees.{Term, Terms, Form, Prog}
+use Rattle.kv_names.specs.declared.symbols.Var.{Var}
+use Rattle.kv_trees.specs.declared.trees.Ref.{Ref}
 use Rattle.kv_sig.specs.FreeNames.{free_ref, free_refs, free_term, free_terms, free_form, free_prog, assumed_form, assumed_prog}
 use Rattle.kv_subst.specs.Changing.{Change, changed_term, changed_terms, variable_or, changed_ref, changed_form, changed_prog}
 use Rattle.kv_calc.proofs.Members.{Sub, in_front, in_back, in_either}

@@ -1,6 +1,6 @@
 -- The laws of derivations.
 use Rattle.std.proofs.Common.{List, [], ◌∷◌, ◌++◌, ◌≡◌, refl, sym, ap, subst}
-use Rattle.kv_syn.specs.Trees.{Form, Sequent}
+use Rattle.kv_trees.specs.Trees.{Form, Sequent}
 use Rattle.kv_sig.specs.Members.{here, there, Every}
 use Rattle.kv_calc.specs.Calculus.{Theory, Good, Step, Rule, Deriv, Derivs, root_of, roots_of, Valid, AllValid, Derivable, sequent, alone}
 use Rattle.kv_calc.specs.Laws.{extended, Dropping, Cutting}

@@ -5,3 +5,8 @@ pub mod Wholes
 pub mod Changed
 pub mod Openings
 pub mod News
+pub mod Typed
+pub mod Backs
+pub mod TypedPlaces
+pub mod Apart
+pub mod Typings

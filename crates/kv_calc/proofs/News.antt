@@ -1,9 +1,9 @@
 -- A variable whose name is new in a sequent can stand beside the sequent's own names.
 use Rattle.std.proofs.Common.{List, [], ◌∷◌, ◌++◌, inl, inr, ◌≡◌, ◌⊎◌, refl, sym, ap, ◌∙◌, subst}
-use Rattle.kv_syn.specs.Trees.{Term, Form, Sequent}
+use Rattle.kv_trees.specs.Trees.{Term, Form, Sequent}
 use Rattle.kv_syn.specs.declared.scripts.Side.TheVariants.{R}
-use Rattle.kv_syn.specs.declared.symbols.Var.{Var}
-use Rattle.kv_syn.specs.declared.trees.Ref.TheVariants.{Free}
+use Rattle.kv_names.specs.declared.symbols.Var.{Var}
+use Rattle.kv_trees.specs.declared.trees.Ref.TheVariants.{Free}
 use Rattle.kv_sig.specs.Members.{In, here, there}
 use Rattle.kv_sig.specs.Sequents.{at_end}
 use Rattle.kv_sig.specs.Typing.{IsSort, IsForm}
@@ -59,6 +59,7 @@ module _ (T : Theory) (S : Sequent) (g : Good T S) (x : Var) (sort : IsSort T.si
 
   pub good_beside : Good T (beside x S)
   good_beside = record {
+    lawful = g.lawful;
     consistent = record {
       sorts = λ y z i j e. one_sort y z (free_beside x S y i) (free_beside x S z j) e;
       profiles = λ p q i j e. g.consistent.profiles p q (subst (In p) (assumed_beside x S) i) (subst (In q) (assumed_beside x S) j) e;

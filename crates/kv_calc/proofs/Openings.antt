@@ -1,16 +1,17 @@
 -- The body of a quantifier of a sequent, opened at a term, is a formula of parts of the sequent.
 use Rattle.std.proofs.Common.{ℕ, ◌+◌, ◌-◌, List, [], ◌∷◌, ◌++◌, Some, None, inl, inr, ◌≡◌, refl, sym, subst}
 use Rattle.std.specs.Prelude.{Bool, true, false, ◌==◌, if◌then◌else◌, nat_lt}
-use Rattle.kv_syn.specs.Trees.{Name, Term, Terms, Form, Sequent}
-use Rattle.kv_syn.specs.declared.symbols.Var.{Var}
-use Rattle.kv_syn.specs.declared.trees.Ref.{Ref}
-use Rattle.kv_syn.specs.declared.trees.Ref.TheVariants.{Free, Bound}
+use Rattle.kv_names.specs.Names.{Name}
+use Rattle.kv_trees.specs.Trees.{Term, Terms, Form, Sequent}
+use Rattle.kv_names.specs.declared.symbols.Var.{Var}
+use Rattle.kv_trees.specs.declared.trees.Ref.{Ref}
+use Rattle.kv_trees.specs.declared.trees.Ref.TheVariants.{Free, Bound}
 use Rattle.kv_sig.specs.Members.{In}
 use Rattle.kv_sig.specs.FreeNames.{free_ref, free_term, free_terms, free_form, free_sequent, assumed_form, assumed_sequent}
 use Rattle.kv_sig.specs.Typing.{IsTerm, IsForm}
 use Rattle.kv_subst.specs.Changing.{changed_form}
 use Rattle.kv_subst.specs.Opening.{raised_term, raised_terms, opened, is_admissible, open_form}
-use Rattle.kv_subst.proofs.Typings.{opening_typed}
+use Rattle.kv_calc.proofs.Typings.{opening_typed}
 use Rattle.kv_calc.specs.Calculus.{Theory}
 use Rattle.kv_calc.proofs.Members.{Sub, in_front, in_either}
 use Rattle.kv_calc.proofs.Changed.{form_names, same_assumed}

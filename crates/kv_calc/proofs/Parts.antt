@@ -1,8 +1,9 @@
 -- Sequents of parts of a good sequent are good.
 use Rattle.std.proofs.Common.{List, [], ◌∷◌, ◌++◌, inl, inr}
-use Rattle.kv_syn.specs.Trees.{Name, Form, Sequent}
-use Rattle.kv_syn.specs.declared.symbols.Profile.{Profile}
-use Rattle.kv_syn.specs.declared.symbols.Var.{Var}
+use Rattle.kv_names.specs.Names.{Name}
+use Rattle.kv_trees.specs.Trees.{Form, Sequent}
+use Rattle.kv_names.specs.declared.symbols.Profile.{Profile}
+use Rattle.kv_names.specs.declared.symbols.Var.{Var}
 use Rattle.kv_sig.specs.Members.{In, here, there, Every}
 use Rattle.kv_sig.specs.Typing.{IsForm}
 use Rattle.kv_sig.specs.FreeNames.{free_form, free_forms, free_sequent, assumed_form, assumed_forms, assumed_sequent, IsConsistent}
@@ -56,6 +57,7 @@ consistent_parts T S c l r pl pr = record { sorts = λ x y i j e. c.sorts x y (f
 
 pub good_parts : (T : Theory) (S : Sequent) → Good T S → (l r : List Form) → Every (Part T S) l → Every (Part T S) r → Good T (sequent l r)
 good_parts T S g l r pl pr = record {
+  lawful = g.lawful;
   consistent = consistent_parts T S g.consistent l r pl pr;
   lefts = every_of (IsForm T.signature []) l (λ f i. (every_in (Part T S) l pl f i).typed);
   rights = every_of (IsForm T.signature []) r (λ f i. (every_in (Part T S) r pr f i).typed);

@@ -1,6 +1,6 @@
 -- Sequents whose formulas are parts of a good sequent are good.
 use Rattle.std.proofs.Common.{ℕ, ◌-◌, ◌∷◌, []}
-use Rattle.kv_syn.specs.Trees.{Form, Sequent}
+use Rattle.kv_trees.specs.Trees.{Form, Sequent}
 use Rattle.kv_syn.specs.declared.scripts.Side.{Side}
 use Rattle.kv_syn.specs.declared.scripts.Side.TheVariants.{L, R}
 use Rattle.kv_sig.specs.Members.{Every}

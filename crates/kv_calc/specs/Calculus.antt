@@ -1,16 +1,17 @@
 -- The calculus: theories, the schemas of rules, and derivations.
 use Rattle.std.specs.Prelude.{◌≡◌, ◌≢◌, ℕ, List, [], ◌∷◌, ◌++◌, Some}
-use Rattle.kv_syn.specs.Trees.{Name, Term, Form, Prog, Sequent}
+use Rattle.kv_names.specs.Names.{Name}
+use Rattle.kv_trees.specs.Trees.{Term, Form, Prog, Sequent}
 use Rattle.kv_syn.specs.declared.scripts.Side.{Side}
 use Rattle.kv_syn.specs.declared.scripts.Side.TheVariants.{L, R}
-use Rattle.kv_syn.specs.declared.symbols.Profile.{Profile}
-use Rattle.kv_syn.specs.declared.symbols.Symbol.{Symbol}
-use Rattle.kv_syn.specs.declared.symbols.Var.{Var}
-use Rattle.kv_syn.specs.declared.trees.Ref.TheVariants.{Free}
+use Rattle.kv_names.specs.declared.symbols.Profile.{Profile}
+use Rattle.kv_names.specs.declared.symbols.Symbol.{Symbol}
+use Rattle.kv_names.specs.declared.symbols.Var.{Var}
+use Rattle.kv_trees.specs.Variables.{variable}
 use Rattle.kv_syn.specs.declared.units.Gen.{Gen}
 use Rattle.kv_sig.specs.Members.{In, Every}
 use Rattle.kv_sig.specs.Typing.{IsForm, IsTerm}
-use Rattle.kv_sig.specs.FreeNames.{free_sequent, assumed_sequent, IsConsistent}
+use Rattle.kv_sig.specs.FreeNames.{free_sequent, assumed_sequent, IsClosed, IsConsistent}
 use Rattle.kv_sig.specs.Places.{item_at}
 pub use Rattle.kv_sig.specs.Sequents.{sequent}
 use Rattle.kv_sig.specs.Sequents.{side_of, in_place, two_in_place, at_end, without}
@@ -32,8 +33,13 @@ pub record Theory : Type 0 where
 abbrev pub adding : List Form → Theory → Theory
 adding forms T = record { signature = T.signature; formulas = T.formulas ++ forms; clauses = T.clauses; bodies = T.bodies }
 
--- each free name has one meaning, and each formula is typed over the signature
+-- each formula that may be taken as given is typed over the signature, and closed
+abbrev pub IsLawful : Theory → Type 0
+IsLawful T = Every (λ (f : Form). IsForm T.signature [] f × IsClosed f) T.formulas
+
+-- the theory is lawful, each free name has one meaning, and each formula is typed over the signature
 pub record Good (T : Theory) (S : Sequent) : Type 0 where
+  pub lawful : IsLawful T
   pub consistent : IsConsistent S
   pub lefts : Every (IsForm T.signature []) S.left
   pub rights : Every (IsForm T.signature []) S.right
@@ -75,9 +81,6 @@ pub data Step : Type 0 where
 pub record IsNew (x : Name) (S : Sequent) : Type 0 where
   pub variables : (y : Var) → In y (free_sequent S) → y.name ≢ x
   pub procedures : (p : Name × Profile) → In p (assumed_sequent S) → p.0 ≢ x
-
-abbrev pub variable : Name → Name → Term
-variable x sort = Term.Place (Free (record { name = x; sort = sort }))
 
 -- the j-th on that side isn't the i-th on the left
 abbrev pub IsElsewhere : ℕ → Side → ℕ → Type 0
@@ -142,10 +145,11 @@ Rule T (Step.reflexive i) S premises = (t : Term) × (item_at S.right i ≡ Some
 -- swap side i: of `t = u` the sides change
 Rule T (Step.swap side i) S premises = (t : Term) × (u : Term) × (item_at (side_of side S) i ≡ Some (Form.Equal t u))
     × (premises ≡ in_place side i (Form.Equal u t) S ∷ [])
--- replace i side j body: the i-th on the left is `t = u`; another formula, which is the body at t, becomes the body at u
-Rule T (Step.replace i side j body) S premises = (t : Term) × (u : Term) × (a : Form) × (b : Form)
+-- replace i side j body: the i-th on the left is `t = u`; another formula, which is the body at t, becomes the body at u. The body
+-- stands under a binder of the sort of t
+Rule T (Step.replace i side j body) S premises = (t : Term) × (u : Term) × (s : Name) × (a : Form) × (b : Form)
     × (item_at S.left i ≡ Some (Form.Equal t u)) × (item_at (side_of side S) j ≡ Some a) × IsElsewhere i side j
-    × (open_form body t ≡ Some a) × (open_form body u ≡ Some b) × (premises ≡ in_place side j b S ∷ [])
+    × IsTerm T.signature [] t s × IsForm T.signature (s ∷ []) body × (open_form body t ≡ Some a) × (open_form body u ≡ Some b) × (premises ≡ in_place side j b S ∷ [])
 -- axiom_of f: f is a formula of the theory, and is used at the end of the left
 Rule T (Step.axiom_of f) S premises = In f T.formulas × (premises ≡ at_end L f S ∷ [])
 Rule T Step.other S premises = ⊥

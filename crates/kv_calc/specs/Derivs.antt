@@ -1,11 +1,12 @@
 -- The derivations of the code as plain data. A step names its schema by the row of its rule; that of `use` names `axiom`, whose
 -- text is the formula, and the text of `subst` is its body.
 use Rattle.std.specs.Prelude.{ℕ, ◌==◌, if◌then◌else◌, List, [], ◌∷◌, Option, Some, None}
-use Rattle.kv_syn.specs.Bridge.{plain_sequent}
-use Rattle.kv_syn.specs.Trees.{Name, Term, Form}
+use Rattle.kv_trees.specs.Bridge.{plain_sequent}
+use Rattle.kv_names.specs.Names.{Name}
+use Rattle.kv_trees.specs.Trees.{Term, Form}
 use Rattle.kv_syn.specs.declared.scripts.Side.{Side}
 use Rattle.kv_sig.specs.Steps.{TypedText, TypedStep, plain_typed_step, beside}
-use Rattle.kv_table.specs.declared.rule.TheConstants as rule
+use Rattle.kv_table.specs.Rules as rule
 use Rattle.kv_calc.specs.Calculus.{Step}
 use Rattle.kv_calc.specs.Calculus as c
 use Rattle.kv_calc.specs.declared.derivs.Deriv.{Deriv, fold-Deriv}

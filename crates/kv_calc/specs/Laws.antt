@@ -1,6 +1,6 @@
 -- Laws of derivations.
 use Rattle.std.specs.Prelude.{[], ◌∷◌, ◌++◌}
-use Rattle.kv_syn.specs.Trees.{Form, Sequent}
+use Rattle.kv_trees.specs.Trees.{Form, Sequent}
 use Rattle.kv_calc.specs.Calculus.{Theory, Good, Derivable, sequent, alone}
 
 -- the sequent with more formulas before its own on each side

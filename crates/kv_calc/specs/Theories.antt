@@ -1,7 +1,7 @@
 -- The theory of a flat.
 use Rattle.std.specs.Prelude.{if◌then◌else◌, List, [], ◌∷◌, map}
-use Rattle.kv_syn.specs.Bridge.{plain_form, plain_prog}
-use Rattle.kv_syn.specs.Trees.{Form}
+use Rattle.kv_trees.specs.Bridge.{plain_form, plain_prog}
+use Rattle.kv_trees.specs.Trees.{Form}
 use Rattle.kv_syn.specs.declared.outcomes.Entry.{Entry}
 use Rattle.kv_sig.specs.declared.flats.Body.{Body as BodyRow}
 use Rattle.kv_sig.specs.declared.flats.Flat.{Flat}

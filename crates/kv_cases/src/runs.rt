@@ -7,7 +7,7 @@ use crate::setup::{Fails, Setup, at_least_one, capacity_of};
 use crate::shown::{as_text, grouped, push_lines, push_quoted};
 use kv_io::{MemSink, MemSource, MemStore};
 use kv_syn::Steps;
-use kv_top::{Status, message, run};
+use kv_top::{Status, code, message, run};
 use std::alloc::Global;
 use std::fmt::Write;
 use std::marker::Brand;
@@ -174,7 +174,7 @@ fn is_same(one: &Ran, other: &Ran) -> bool {
 /// Adds the output, the status, and the file behind the run where it isn't as before.
 fn push_ran(out: &mut String, setup: &Setup, ran: &Ran) -> Result<(), CaseError> {
     push_lines(out, as_text(&ran.output))?;
-    writeln!(out, "status {} {}", ran.status as u8, message(ran.status))?;
+    writeln!(out, "status {} {}", code(ran.status), message(ran.status))?;
     if ran.held == setup.file {
         return Ok(());
     }

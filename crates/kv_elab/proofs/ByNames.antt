@@ -4,18 +4,19 @@ use Rattle.std.proofs.Common.{ℕ, Bool, true, false, ◌==◌, ◌&&◌, if◌t
 use Rattle.std.specs.List.{find}
 use Rattle.std.specs.Option.{option_map}
 use Rattle.std.specs.Str.{bytes_eq}
-use Rattle.kv_syn.proofs.Same.{name_is, name_same}
+use Rattle.kv_trees.proofs.Same.{name_is, name_same}
 use Rattle.kv_sig.specs.Members.{In, here, there, Every}
 use Rattle.kv_sig.specs.Signatures.{profile_of}
-use Rattle.kv_syn.specs.RawTrees.{RawTerm, RawTerms, RawForm, RawProg}
-use Rattle.kv_syn.specs.Trees.{Name, Term, Terms, Form, Prog}
-use Rattle.kv_syn.specs.declared.symbols.Callee.{Callee}
-use Rattle.kv_syn.specs.declared.symbols.Profile.{Profile}
-use Rattle.kv_syn.specs.declared.symbols.Profile.TheVariants.{Sort, Fun, Pred, Proc}
-use Rattle.kv_syn.specs.declared.symbols.Symbol.{Symbol}
-use Rattle.kv_syn.specs.declared.trees.Ref.{Ref}
+use Rattle.kv_raw.specs.RawTrees.{RawTerm, RawTerms, RawForm, RawProg}
+use Rattle.kv_names.specs.Names.{Name}
+use Rattle.kv_trees.specs.Trees.{Term, Terms, Form, Prog}
+use Rattle.kv_names.specs.declared.symbols.Callee.{Callee}
+use Rattle.kv_names.specs.declared.symbols.Profile.{Profile}
+use Rattle.kv_names.specs.declared.symbols.Profile.TheVariants.{Sort, Fun, Pred, Proc}
+use Rattle.kv_names.specs.declared.symbols.Symbol.{Symbol}
+use Rattle.kv_trees.specs.declared.trees.Ref.{Ref}
 use Rattle.kv_elab.specs.declared.contexts.Context.{Context}
-use Rattle.kv_elab.specs.declared.errors.TypeError.{TypeError}
+use Rattle.kv_elab.specs.Faults.{TypeFault}
 use Rattle.kv_elab.specs.Typed.{Typed, and_then, both}
 use Rattle.kv_elab.specs.Scopes.{under, place_of, assumed_of}
 use Rattle.kv_elab.specs.Elab.{terms_count, of_sort, elab_name, elab_term, elab_args, elab_sort_where, elab_sort, elab_atom, elab_place, elab_refs, callee_where, elab_call, elab_condition, elab_form, elab_prog}
@@ -35,7 +36,7 @@ name_agrees : (f : Name) (place : Option (Ref × Name)) (profile : Option Profil
     → ((wants : List Name) → args wants ≡ others wants) → elab_name f place profile n args ≡ elab_name f place profile n others
 name_agrees f (Some place) profile n args others h = refl
 name_agrees f None (Some (Fun wants sort)) n args others h =
-    ap (λ (r : Typed Terms). if n == length wants then and_then r (λ us. Ok (Term.App f us, sort)) else Err (TypeError.Arity f)) (h wants)
+    ap (λ (r : Typed Terms). if n == length wants then and_then r (λ us. Ok (Term.App f us, sort)) else Err (TypeFault.Arity f)) (h wants)
 name_agrees f None None n args others h = refl
 name_agrees f None (Some Sort) n args others h = refl
 name_agrees f None (Some (Pred wants)) n args others h = refl
@@ -45,7 +46,7 @@ atom_agrees : (p : Name) (place : Option (Ref × Name)) (profile : Option Profil
     → ((wants : List Name) → args wants ≡ others wants) → elab_atom p place profile n args ≡ elab_atom p place profile n others
 atom_agrees p (Some place) profile n args others h = refl
 atom_agrees p None (Some (Pred wants)) n args others h =
-    ap (λ (r : Typed Terms). if n == length wants then and_then r (λ us. Ok (Form.Atom p us)) else Err (TypeError.Arity p)) (h wants)
+    ap (λ (r : Typed Terms). if n == length wants then and_then r (λ us. Ok (Form.Atom p us)) else Err (TypeFault.Arity p)) (h wants)
 atom_agrees p None None n args others h = refl
 atom_agrees p None (Some Sort) n args others h = refl
 atom_agrees p None (Some (Fun wants sort)) n args others h = refl
@@ -55,7 +56,7 @@ call_agrees : (p : Name) (found : Option (Callee × Profile)) (n m : ℕ) (args 
     → ((wants : List Name) → args wants ≡ others wants) → elab_call p found n m args refs ≡ elab_call p found n m others refs
 call_agrees p None n m args others refs h = refl
 call_agrees p (Some (callee, Proc values names)) n m args others refs h =
-    ap (λ (r : Typed Terms). if n == length values && m == length names then both (Prog.Call callee) r (refs names) else Err (TypeError.Arity p)) (h values)
+    ap (λ (r : Typed Terms). if n == length values && m == length names then both (Prog.Call callee) r (refs names) else Err (TypeFault.Arity p)) (h values)
 call_agrees p (Some (callee, Sort)) n m args others refs h = refl
 call_agrees p (Some (callee, Fun wants sort)) n m args others refs h = refl
 call_agrees p (Some (callee, Pred wants)) n m args others refs h = refl

@@ -2,13 +2,14 @@
 use Rattle.std.proofs.Common.{◌≡◌, ℕ, ◌+◌, ◌<◌, ◌≤◌, List, [], ◌∷◌, ◌++◌, Ok, Err, arith, length, drop, take, get_or, refl, ap, ◌∙◌, sym, add-one, drop-cons, append_assoc}
 use Rattle.std.proofs.lemmas.List.{drop_all, take_more, append-nil}
 use Rattle.std.proofs.Math.Path.{ap₂}
-use Rattle.kv_syn.specs.Trees as P
-use Rattle.kv_syn.specs.Bridge.{plain_term, plain_terms}
-use Rattle.kv_syn.specs.RawBridge.{raw_term, raw_terms}
-use Rattle.kv_syn.specs.declared.symbols.Symbol.{Symbol}
-use Rattle.kv_syn.specs.declared.trees.Ref.{Ref}
-use Rattle.kv_syn.specs.declared.trees.Term.{Term}
-use Rattle.kv_syn.specs.declared.raws.RawTerm.{RawTerm}
+use Rattle.kv_names.specs.Names.{Name}
+use Rattle.kv_trees.specs.Trees as P
+use Rattle.kv_trees.specs.Bridge.{plain_term, plain_terms}
+use Rattle.kv_raw.specs.RawBridge.{raw_term, raw_terms}
+use Rattle.kv_names.specs.declared.symbols.Symbol.{Symbol}
+use Rattle.kv_trees.specs.declared.trees.Ref.{Ref}
+use Rattle.kv_trees.specs.declared.trees.Term.{Term}
+use Rattle.kv_raw.specs.declared.raws.RawTerm.{RawTerm}
 use Rattle.kv_elab.specs.declared.contexts.Context.{Context}
 use Rattle.kv_elab.specs.Typed.{Typed, and_then, both}
 use Rattle.kv_elab.specs.Scopes.{place_of}
@@ -41,7 +42,7 @@ after-more : (ts : List Term) (t : Term) (first : Typed P.Term) (rest : Typed P.
 after-more ts t first (Ok us) e = ap (λ r. after ts (both P.Terms.more r (Ok us))) e ∙ ap Ok (joined-more ts t us)
 after-more ts t first (Err fault) e = ap (λ r. after ts (both P.Terms.more r (Err fault))) e
 
-pub args_next : (sig : List Symbol) (c : Context) (wants : List P.Name) (args : List RawTerm) (ts : List Term) (i : ℕ) (want : P.Name) (arg : RawTerm) (t : Term) →
+pub args_next : (sig : List Symbol) (c : Context) (wants : List Name) (args : List RawTerm) (ts : List Term) (i : ℕ) (want : Name) (arg : RawTerm) (t : Term) →
     i < length wants → i < length args → want ≡ get_or wants i want → arg ≡ get_or args i arg →
     and_then (elab_term sig c (raw_term arg)) (of_sort want) ≡ Ok (plain_term t) →
     after ts (elab_args sig c (drop i wants) (raw_terms (drop i args))) ≡ after (ts ++ t ∷ []) (elab_args sig c (drop (i + 1) wants) (raw_terms (drop (i + 1) args)))
@@ -49,7 +50,7 @@ args_next sig c wants args ts i want arg t h g w a e =
     ap₂ (λ ws xs. after ts (elab_args sig c ws (raw_terms xs))) (drop_next wants i want h w) (drop_next args i arg g a)
     ∙ after-more ts t (and_then (elab_term sig c (raw_term arg)) (of_sort want)) (elab_args sig c (drop (i + 1) wants) (raw_terms (drop (i + 1) args))) e
 
-pub args_end : (sig : List Symbol) (c : Context) (wants : List P.Name) (args : List RawTerm) (ts : List Term) (i : ℕ) →
+pub args_end : (sig : List Symbol) (c : Context) (wants : List Name) (args : List RawTerm) (ts : List Term) (i : ℕ) →
     length wants ≤ i → length args ≤ i → after ts (elab_args sig c (drop i wants) (raw_terms (drop i args))) ≡ Ok (plain_terms ts)
 args_end sig c wants args ts i h g =
     ap₂ (λ ws xs. after ts (elab_args sig c ws (raw_terms xs))) (drop_all i wants h) (drop_all i args g) ∙ ap Ok (joined-none (plain_terms ts))
@@ -65,7 +66,7 @@ after_refs-more rs r first (Err fault) e = ap (λ x. after_refs rs (both ◌∷�
 take_next : {A : Type 0} (xs : List A) (i : ℕ) (x : A) → i < length xs → x ≡ get_or xs i x → take i xs ++ x ∷ [] ≡ take (i + 1) xs
 take_next xs i x h e = ap (λ y. take i xs ++ y ∷ []) e ∙ sym (take_more xs i x h)
 
-pub refs_next : (c : Context) (wants names : List P.Name) (rs : List Ref) (i : ℕ) (want name : P.Name) (r : Ref) →
+pub refs_next : (c : Context) (wants names : List Name) (rs : List Ref) (i : ℕ) (want name : Name) (r : Ref) →
     i < length wants → i < length names → want ≡ get_or wants i want → name ≡ get_or names i name →
     and_then (elab_place name (place_of c name)) (elab_ref (take i names) want name) ≡ Ok r →
     after_refs rs (elab_refs c (take i names) (drop i wants) (drop i names)) ≡ after_refs (rs ++ r ∷ []) (elab_refs c (take (i + 1) names) (drop (i + 1) wants) (drop (i + 1) names))
@@ -74,7 +75,7 @@ refs_next c wants names rs i want name r h g w n e =
     ∙ after_refs-more rs r (and_then (elab_place name (place_of c name)) (elab_ref (take i names) want name)) (elab_refs c (take i names ++ name ∷ []) (drop (i + 1) wants) (drop (i + 1) names)) e
     ∙ ap (λ before. after_refs (rs ++ r ∷ []) (elab_refs c before (drop (i + 1) wants) (drop (i + 1) names))) (take_next names i name g n)
 
-pub refs_end : (c : Context) (wants names : List P.Name) (rs : List Ref) (i : ℕ) →
+pub refs_end : (c : Context) (wants names : List Name) (rs : List Ref) (i : ℕ) →
     length wants ≤ i → length names ≤ i → after_refs rs (elab_refs c (take i names) (drop i wants) (drop i names)) ≡ Ok rs
 refs_end c wants names rs i h g =
     ap₂ (λ ws xs. after_refs rs (elab_refs c (take i names) ws xs)) (drop_all i wants h) (drop_all i names g) ∙ ap Ok (append-nil rs)

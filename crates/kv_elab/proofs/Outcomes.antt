@@ -1,5 +1,6 @@
 -- What stands behind a value that typing answers.
 use Rattle.std.proofs.Common.{◌≡◌, Bool, true, false, cond, ◌&&◌, Some, Result, Ok, Err, IfOk, refl, subst}
+use Rattle.kv_elab.specs.Faults.{TypeFault}
 use Rattle.kv_elab.specs.declared.errors.TypeError.{TypeError}
 use Rattle.kv_elab.specs.Typed.{Typed, and_then, both, Gives}
 
@@ -12,7 +13,7 @@ from_some x y e = cc
 pub from_ok : {A : Type 0} (x y : A) → Answers (Ok x) y → x ≡ y
 from_ok x y e = cc
 
-pub no_fault : {A : Type 0} (fault : TypeError) (x : A) → Answers (Err fault) x → ⊥
+pub no_fault : {A : Type 0} (fault : TypeFault) (x : A) → Answers (Err fault) x → ⊥
 no_fault fault x e = cc
 
 -- the first part's value, with which the rest goes on
@@ -35,12 +36,12 @@ from_one P f (Ok x) y e k = subst P (from_ok (f x) y e) (k x refl)
 from_one P f (Err fault) y e k = absurd (no_fault fault y e)
 
 -- what stands after a test that has to hold
-pub from_if : {A : Type 0} (test : Bool) (typed : Typed A) (fault : TypeError) (x : A) → Answers (cond test typed (Err fault)) x → (test ≡ true) × Answers typed x
+pub from_if : {A : Type 0} (test : Bool) (typed : Typed A) (fault : TypeFault) (x : A) → Answers (cond test typed (Err fault)) x → (test ≡ true) × Answers typed x
 from_if true typed fault x e = (refl, e)
 from_if false typed fault x e = absurd (no_fault fault x e)
 
 -- what stands after a test that has to fail
-pub from_unless : {A : Type 0} (test : Bool) (typed : Typed A) (fault : TypeError) (x : A) → Answers (cond test (Err fault) typed) x → (test ≡ false) × Answers typed x
+pub from_unless : {A : Type 0} (test : Bool) (typed : Typed A) (fault : TypeFault) (x : A) → Answers (cond test (Err fault) typed) x → (test ≡ false) × Answers typed x
 from_unless true typed fault x e = absurd (no_fault fault x e)
 from_unless false typed fault x e = (refl, e)
 

@@ -6,12 +6,12 @@ use Rattle.std.proofs.lemmas.Grind.{reverse_onto}
 use Rattle.std.proofs.lemmas.List.{length-reverse, reverse-append}
 use Rattle.std.proofs.lemmas.Option.{slice_get-map}
 use Rattle.std.proofs.lemmas.Slice.Eq.{bytes_eq-Decides}
-use Rattle.kv_syn.specs.Trees.{Name}
-use Rattle.kv_syn.specs.declared.symbols.Profile.{Profile}
-use Rattle.kv_syn.specs.declared.symbols.Symbol.{Symbol}
-use Rattle.kv_syn.specs.declared.symbols.Var.{Var}
-use Rattle.kv_syn.specs.declared.trees.Ref.{Ref}
-use Rattle.kv_syn.specs.declared.trees.Ref.TheVariants.{Free, Bound}
+use Rattle.kv_names.specs.Names.{Name}
+use Rattle.kv_names.specs.declared.symbols.Profile.{Profile}
+use Rattle.kv_names.specs.declared.symbols.Symbol.{Symbol}
+use Rattle.kv_names.specs.declared.symbols.Var.{Var}
+use Rattle.kv_trees.specs.declared.trees.Ref.{Ref}
+use Rattle.kv_trees.specs.declared.trees.Ref.TheVariants.{Free, Bound}
 use Rattle.kv_sig.specs.Members.{In, Every}
 use Rattle.kv_sig.specs.Typing.{IsSort, IsVariable}
 use Rattle.kv_sig.specs.FreeNames.{free_ref}

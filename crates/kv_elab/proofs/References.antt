@@ -3,15 +3,15 @@ use Rattle.std.proofs.Common.{◌≡◌, false, cond, List, [], ◌∷◌, ◌++
 use Rattle.std.proofs.Math.Path.{ap₂}
 use Rattle.std.specs.List.{list_any}
 use Rattle.std.proofs.lemmas.Slice.Eq.{bytes_eq-Decides}
-use Rattle.kv_syn.specs.Trees.{Name}
-use Rattle.kv_syn.specs.declared.symbols.Symbol.{Symbol}
-use Rattle.kv_syn.specs.declared.symbols.Var.{Var}
-use Rattle.kv_syn.specs.declared.trees.Ref.{Ref}
+use Rattle.kv_names.specs.Names.{Name}
+use Rattle.kv_names.specs.declared.symbols.Symbol.{Symbol}
+use Rattle.kv_names.specs.declared.symbols.Var.{Var}
+use Rattle.kv_trees.specs.declared.trees.Ref.{Ref}
 use Rattle.kv_sig.specs.Members.{In, Every, Distinct}
 use Rattle.kv_sig.specs.Typing.{AreVariables}
 use Rattle.kv_sig.specs.FreeNames.{free_refs}
 use Rattle.kv_elab.specs.declared.contexts.Context.{Context}
-use Rattle.kv_elab.specs.declared.errors.TypeError.{TypeError}
+use Rattle.kv_elab.specs.Faults.{TypeFault}
 use Rattle.kv_elab.specs.Typed.{and_then}
 use Rattle.kv_elab.specs.Scopes.{place_of}
 use Rattle.kv_elab.specs.Elab.{elab_place, elab_ref, elab_refs}
@@ -22,10 +22,10 @@ use Rattle.kv_elab.proofs.Places.{Names, place_names, one_name, place_typed, pla
 
 ref_at : (before : List Name) (want name : Name) (o : Option (Ref × Name)) (r : Ref) → Answers (and_then (elab_place name o) (elab_ref before want name)) r →
     (o ≡ Some (r, want)) × (list_any (λ y. bytes_eq y name) before ≡ false)
-ref_at before want name None r e = absurd (no_fault (TypeError.Unknown name) r e)
+ref_at before want name None r e = absurd (no_fault (TypeFault.Unknown name) r e)
 ref_at before want name (Some p) r e =
-    let new = from_unless (list_any (λ y. bytes_eq y name) before) (cond (bytes_eq want p.1) (Ok p.0) (Err (TypeError.Sort want p.1))) (TypeError.Duplicate name) r e in
-    let fits = from_if (bytes_eq want p.1) (Ok p.0) (TypeError.Sort want p.1) r new.1 in
+    let new = from_unless (list_any (λ y. bytes_eq y name) before) (cond (bytes_eq want p.1) (Ok p.0) (Err (TypeFault.Sort want p.1))) (TypeFault.Duplicate name) r e in
+    let fits = from_if (bytes_eq want p.1) (Ok p.0) (TypeFault.Sort want p.1) r new.1 in
     (ap₂ (λ x s. Some (x, s)) (from_ok p.0 r fits.1) (sym ((bytes_eq-Decides want p.1).0 fits.0)), new.0)
 
 -- the reference is the place of a name that does not stand before

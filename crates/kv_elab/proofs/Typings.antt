@@ -1,13 +1,14 @@
 -- What typing answers is typed.
 use Rattle.std.proofs.Common.{◌≡◌, true, false, ◌||◌, List, [], ◌∷◌, Option, Some, None, length, refl, ap, subst, ◌∙◌, arith}
 use Rattle.std.proofs.Math.Path.{ap₂}
-use Rattle.kv_syn.specs.Trees.{Name, Term, Terms, Form, Prog}
-use Rattle.kv_syn.specs.RawTrees.{RawTerm, RawTerms, RawForm, RawProg}
-use Rattle.kv_syn.specs.declared.symbols.Profile.{Profile}
-use Rattle.kv_syn.specs.declared.symbols.Profile.TheVariants.{Proc}
-use Rattle.kv_syn.specs.declared.symbols.Symbol.{Symbol}
-use Rattle.kv_syn.specs.declared.symbols.Callee.{Callee}
-use Rattle.kv_syn.specs.declared.symbols.Var.{Var}
+use Rattle.kv_names.specs.Names.{Name}
+use Rattle.kv_trees.specs.Trees.{Term, Terms, Form, Prog}
+use Rattle.kv_raw.specs.RawTrees.{RawTerm, RawTerms, RawForm, RawProg}
+use Rattle.kv_names.specs.declared.symbols.Profile.{Profile}
+use Rattle.kv_names.specs.declared.symbols.Profile.TheVariants.{Proc}
+use Rattle.kv_names.specs.declared.symbols.Symbol.{Symbol}
+use Rattle.kv_names.specs.declared.symbols.Callee.{Callee}
+use Rattle.kv_names.specs.declared.symbols.Var.{Var}
 use Rattle.kv_sig.specs.Signatures.{profile_of}
 use Rattle.kv_sig.specs.Typing.{IsSort, IsTerm, AreTerms, IsProcedure, IsForm, IsProg}
 use Rattle.kv_sig.specs.Typing.{has_program as has_program_typed}

@@ -1,12 +1,13 @@
 -- What typing answers names only what the context has.
 use Rattle.std.proofs.Common.{◌≡◌, List, [], ◌∷◌, ◌++◌, Option, Some, None, length, refl, ap, subst}
-use Rattle.kv_syn.specs.Trees.{Name, Term, Terms, Form, Prog}
-use Rattle.kv_syn.specs.RawTrees.{RawTerm, RawTerms, RawForm, RawProg}
-use Rattle.kv_syn.specs.declared.symbols.Profile.{Profile}
-use Rattle.kv_syn.specs.declared.symbols.Profile.TheVariants.{Proc}
-use Rattle.kv_syn.specs.declared.symbols.Symbol.{Symbol}
-use Rattle.kv_syn.specs.declared.symbols.Callee.{Callee}
-use Rattle.kv_syn.specs.declared.symbols.Var.{Var}
+use Rattle.kv_names.specs.Names.{Name}
+use Rattle.kv_trees.specs.Trees.{Term, Terms, Form, Prog}
+use Rattle.kv_raw.specs.RawTrees.{RawTerm, RawTerms, RawForm, RawProg}
+use Rattle.kv_names.specs.declared.symbols.Profile.{Profile}
+use Rattle.kv_names.specs.declared.symbols.Profile.TheVariants.{Proc}
+use Rattle.kv_names.specs.declared.symbols.Symbol.{Symbol}
+use Rattle.kv_names.specs.declared.symbols.Callee.{Callee}
+use Rattle.kv_names.specs.declared.symbols.Var.{Var}
 use Rattle.kv_sig.specs.Members.{In, Every}
 use Rattle.kv_sig.specs.Signatures.{profile_of}
 use Rattle.kv_sig.specs.FreeNames.{free_ref, free_refs, free_term, free_terms, free_form, free_prog, assumed_callee, assumed_form, assumed_prog, IsClosed}

@@ -2,16 +2,17 @@
 use Rattle.std.specs.Prelude.{ℕ, Bool, true, false, ◌&&◌, ◌||◌, ◌+◌, ◌==◌, if◌then◌else◌, List, [], ◌∷◌, ◌++◌, Option, Some, None, Ok, Err, length}
 use Rattle.std.specs.Str.{bytes_eq}
 use Rattle.std.specs.List.{list_any}
-use Rattle.kv_syn.specs.Trees.{Name, Term, Terms, Form, Prog}
-use Rattle.kv_syn.specs.RawTrees.{RawTerm, RawTerms, RawForm, RawProg}
-use Rattle.kv_syn.specs.declared.symbols.Profile.{Profile}
-use Rattle.kv_syn.specs.declared.symbols.Profile.TheVariants.{Sort, Fun, Pred, Proc}
-use Rattle.kv_syn.specs.declared.symbols.Symbol.{Symbol}
-use Rattle.kv_syn.specs.declared.symbols.Callee.{Callee}
-use Rattle.kv_syn.specs.declared.trees.Ref.{Ref}
+use Rattle.kv_names.specs.Names.{Name}
+use Rattle.kv_trees.specs.Trees.{Term, Terms, Form, Prog}
+use Rattle.kv_raw.specs.RawTrees.{RawTerm, RawTerms, RawForm, RawProg}
+use Rattle.kv_names.specs.declared.symbols.Profile.{Profile}
+use Rattle.kv_names.specs.declared.symbols.Profile.TheVariants.{Sort, Fun, Pred, Proc}
+use Rattle.kv_names.specs.declared.symbols.Symbol.{Symbol}
+use Rattle.kv_names.specs.declared.symbols.Callee.{Callee}
+use Rattle.kv_trees.specs.declared.trees.Ref.{Ref}
 use Rattle.kv_sig.specs.Signatures.{profile_of}
 use Rattle.kv_elab.specs.declared.contexts.Context.{Context}
-use Rattle.kv_elab.specs.declared.errors.TypeError.{TypeError}
+use Rattle.kv_elab.specs.Faults.{TypeFault}
 use Rattle.kv_elab.specs.Typed.{Typed, and_then, both}
 use Rattle.kv_elab.specs.Scopes.{under, place_of, assumed_of}
 
@@ -21,14 +22,14 @@ terms_count (RawTerms.more t ts) = terms_count ts + 1
 
 -- a term that has the wanted sort
 abbrev pub of_sort : Name → Term × Name → Typed Term
-of_sort want t = if bytes_eq want t.1 then Ok t.0 else Err (TypeError.Sort want t.1)
+of_sort want t = if bytes_eq want t.1 then Ok t.0 else Err (TypeFault.Sort want t.1)
 
 -- a name with so many arguments, as a term: a variable takes none, and hides a function
 abbrev pub elab_name : Name → Option (Ref × Name) → Option Profile → ℕ → (List Name → Typed Terms) → Typed (Term × Name)
-elab_name f (Some place) profile count args = if count == 0 then Ok (Term.Place place.0, place.1) else Err (TypeError.Unknown f)
+elab_name f (Some place) profile count args = if count == 0 then Ok (Term.Place place.0, place.1) else Err (TypeFault.Unknown f)
 elab_name f None (Some (Fun wants sort)) count args =
-    if count == length wants then and_then (args wants) (λ us. Ok (Term.App f us, sort)) else Err (TypeError.Arity f)
-elab_name f None _ count args = Err (TypeError.Unknown f)
+    if count == length wants then and_then (args wants) (λ us. Ok (Term.App f us, sort)) else Err (TypeFault.Arity f)
+elab_name f None _ count args = Err (TypeFault.Unknown f)
 
 abbrev mutual
   pub elab_term : List Symbol → Context → RawTerm → Typed (Term × Name)
@@ -40,7 +41,7 @@ abbrev mutual
 
 abbrev pub elab_sort_where : Name → Option Profile → Typed Name
 elab_sort_where s (Some Sort) = Ok s
-elab_sort_where s _ = Err (TypeError.Unknown s)
+elab_sort_where s _ = Err (TypeFault.Unknown s)
 
 -- the sort of that name, which no variable hides
 abbrev pub elab_sort : List Symbol → Name → Typed Name
@@ -49,19 +50,19 @@ elab_sort sig s = elab_sort_where s (profile_of sig s)
 -- a name with so many arguments, as a formula: a variable of that name hides a predicate
 abbrev pub elab_atom : Name → Option (Ref × Name) → Option Profile → ℕ → (List Name → Typed Terms) → Typed Form
 elab_atom p None (Some (Pred wants)) count args =
-    if count == length wants then and_then (args wants) (λ us. Ok (Form.Atom p us)) else Err (TypeError.Arity p)
-elab_atom p _ _ count args = Err (TypeError.Unknown p)
+    if count == length wants then and_then (args wants) (λ us. Ok (Form.Atom p us)) else Err (TypeFault.Arity p)
+elab_atom p _ _ count args = Err (TypeFault.Unknown p)
 
 -- a variable that is written, with its sort
 abbrev pub elab_place : Name → Option (Ref × Name) → Typed (Ref × Name)
 elab_place x (Some place) = Ok place
-elab_place x None = Err (TypeError.Unknown x)
+elab_place x None = Err (TypeFault.Unknown x)
 
 -- a reference of a call, where the names before it are these
 abbrev pub elab_ref : List Name → Name → Name → Ref × Name → Typed Ref
 elab_ref before want x place =
-    if list_any (λ y. bytes_eq y x) before then Err (TypeError.Duplicate x)
-    else (if bytes_eq want place.1 then Ok place.0 else Err (TypeError.Sort want place.1))
+    if list_any (λ y. bytes_eq y x) before then Err (TypeFault.Duplicate x)
+    else (if bytes_eq want place.1 then Ok place.0 else Err (TypeFault.Sort want place.1))
 
 abbrev pub elab_refs : Context → List Name → List Name → List Name → Typed (List Ref)
 elab_refs c before (want ∷ wants) (x ∷ xs) =
@@ -76,8 +77,8 @@ callee_where p None None = None
 
 abbrev pub elab_call : Name → Option (Callee × Profile) → ℕ → ℕ → (List Name → Typed Terms) → (List Name → Typed (List Ref)) → Typed Prog
 elab_call p (Some (callee, Proc values refs)) count count_2 args names =
-    if count == length values && count_2 == length refs then both (Prog.Call callee) (args values) (names refs) else Err (TypeError.Arity p)
-elab_call p _ count count_2 args names = Err (TypeError.Unknown p)
+    if count == length values && count_2 == length refs then both (Prog.Call callee) (args values) (names refs) else Err (TypeFault.Arity p)
+elab_call p _ count count_2 args names = Err (TypeFault.Unknown p)
 
 abbrev pub has_program : RawForm → Bool
 has_program RawForm.True = false
@@ -96,7 +97,7 @@ has_program (RawForm.Can a f) = true
 
 -- a condition has no box and no diamond, before all else
 abbrev pub elab_condition : RawForm → Typed Form → Typed Form
-elab_condition e typed = if has_program e then Err TypeError.Program else typed
+elab_condition e typed = if has_program e then Err TypeFault.Program else typed
 
 abbrev mutual
   pub elab_form : List Symbol → Context → RawForm → Typed Form

@@ -1,10 +1,11 @@
 -- Contexts that a signature allows, and trees that name only what a context has.
 use Rattle.std.specs.Prelude.{List, map, reverse}
-use Rattle.kv_syn.specs.Trees.{Name, Form}
-use Rattle.kv_syn.specs.declared.symbols.Profile.{Profile}
-use Rattle.kv_syn.specs.declared.symbols.Profile.TheVariants.{Sort, Fun, Pred, Proc}
-use Rattle.kv_syn.specs.declared.symbols.Symbol.{Symbol}
-use Rattle.kv_syn.specs.declared.symbols.Var.{Var}
+use Rattle.kv_names.specs.Names.{Name}
+use Rattle.kv_trees.specs.Trees.{Form}
+use Rattle.kv_names.specs.declared.symbols.Profile.{Profile}
+use Rattle.kv_names.specs.declared.symbols.Profile.TheVariants.{Sort, Fun, Pred, Proc}
+use Rattle.kv_names.specs.declared.symbols.Symbol.{Symbol}
+use Rattle.kv_names.specs.declared.symbols.Var.{Var}
 use Rattle.kv_sig.specs.Members.{In, Every}
 use Rattle.kv_sig.specs.Typing.{IsSort}
 use Rattle.kv_sig.specs.FreeNames.{free_form, assumed_form}

@@ -1,3 +1,4 @@
+pub mod Faults
 pub mod Typed
 pub mod Scopes
 pub mod Elab

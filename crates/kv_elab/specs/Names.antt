@@ -1,10 +1,10 @@
 -- The names that stand in a raw tree, from left to right, and the symbols that they stand for.
 use Rattle.std.specs.Prelude.{◌≡◌, List, [], ◌∷◌, ◌++◌, Option, Some, None}
-use Rattle.kv_syn.specs.Trees.{Name}
-use Rattle.kv_syn.specs.RawTrees.{RawTerm, RawTerms, RawForm, RawProg}
-use Rattle.kv_syn.specs.declared.symbols.Profile.{Profile}
-use Rattle.kv_syn.specs.declared.symbols.Symbol.{Symbol}
-use Rattle.kv_syn.specs.declared.symbols.Var.{Var}
+use Rattle.kv_names.specs.Names.{Name}
+use Rattle.kv_raw.specs.RawTrees.{RawTerm, RawTerms, RawForm, RawProg}
+use Rattle.kv_names.specs.declared.symbols.Profile.{Profile}
+use Rattle.kv_names.specs.declared.symbols.Symbol.{Symbol}
+use Rattle.kv_names.specs.declared.symbols.Var.{Var}
 use Rattle.kv_sig.specs.Signatures.{profile_of}
 use Rattle.kv_elab.specs.declared.contexts.Context.{Context}
 use Rattle.kv_elab.specs.Elab.{elab_term, elab_form, elab_prog}

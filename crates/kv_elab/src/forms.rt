@@ -1,13 +1,13 @@
 // Typing of formulas and programs.
 
 ghost use Rattle.std.specs.Prelude.{◌≡◌, [], OnOk, IfOk};
-ghost use Rattle.kv_syn.specs.Bridge.{plain_form, plain_prog};
-ghost use Rattle.kv_syn.specs.RawBridge.{raw_term, raw_terms, raw_form, raw_prog};
-ghost use Rattle.kv_syn.specs.RawTrees.{RawForm as FormTree, RawProg as ProgTree};
+ghost use Rattle.kv_trees.specs.Bridge.{plain_form, plain_prog};
+ghost use Rattle.kv_raw.specs.RawBridge.{raw_term, raw_terms, raw_form, raw_prog};
+ghost use Rattle.kv_raw.specs.RawTrees.{RawForm as FormTree, RawProg as ProgTree};
 ghost use Rattle.kv_sig.specs.Typing.{IsForm, IsProg};
 ghost use Rattle.kv_sig.specs.FreeNames.{IsClosed};
 ghost use Rattle.kv_elab.specs.Scopes.{under};
-ghost use Rattle.kv_syn.specs.declared.symbols.Var.{Var as VarValue};
+ghost use Rattle.kv_names.specs.declared.symbols.Var.{Var as VarValue};
 ghost use Rattle.kv_elab.specs.declared.contexts.Context.{Context as ContextValue};
 ghost use Rattle.kv_elab.specs.Typed.{Gives};
 ghost use Rattle.kv_elab.specs.Lawful.{sorts_of, IsLawful, IsWithin};

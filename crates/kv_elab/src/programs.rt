@@ -1,7 +1,7 @@
 // Boxes and diamonds in raw formulas.
 
 ghost use Rattle.std.specs.Prelude.{◌≡◌};
-ghost use Rattle.kv_syn.specs.RawBridge.{raw_form};
+ghost use Rattle.kv_raw.specs.RawBridge.{raw_form};
 ghost use Rattle.kv_elab.specs.Elab.{has_program as has_program_tree};
 
 use kv_syn::RawForm;

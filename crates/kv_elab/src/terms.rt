@@ -1,8 +1,8 @@
 // Typing of terms.
 
 ghost use Rattle.std.specs.Prelude.{◌≡◌, IfOk, length};
-ghost use Rattle.kv_syn.specs.Bridge.{plain_term, plain_terms};
-ghost use Rattle.kv_syn.specs.RawBridge.{raw_term, raw_terms};
+ghost use Rattle.kv_trees.specs.Bridge.{plain_term, plain_terms};
+ghost use Rattle.kv_raw.specs.RawBridge.{raw_term, raw_terms};
 ghost use Rattle.kv_sig.specs.Typing.{IsTerm};
 ghost use Rattle.kv_elab.specs.Lawful.{sorts_of, IsLawful};
 ghost use Rattle.kv_elab.specs.Typed.{Gives, and_then};

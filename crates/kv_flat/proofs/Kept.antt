@@ -8,17 +8,18 @@ use Rattle.kv_flat.specs.Faults.{Declares, Finds}
 use Rattle.kv_flat.specs.Items.{fault_behind, fault_of, first_of, is_sort, is_sort_profile, or_clash, parameters_fault, repetition, sort_fault, sorts_fault, sorts_of, symbol_of, unless, with_item, with_symbol}
 use Rattle.kv_flat.specs.declared.faults.FlatError.{FlatError}
 use Rattle.kv_flat.specs.declared.faults.FlatError.TheVariants as fault
-use Rattle.kv_sig.specs.Signatures.{added, added_where, profile_eq, profile_of}
+use Rattle.kv_sig.specs.Signatures.{added, added_where, profile_of}
+use Rattle.kv_trees.specs.Same.{profile_eq}
 use Rattle.kv_sig.specs.declared.sigs.SigError.{SigError}
 use Rattle.kv_sig.specs.declared.sigs.SigError.TheVariants as sig
 use Rattle.kv_syn.specs.Projects as P
-use Rattle.kv_syn.specs.Trees.{Name}
+use Rattle.kv_names.specs.Names.{Name}
 use Rattle.kv_syn.specs.declared.outcomes.Reason.{Reason}
-use Rattle.kv_syn.specs.declared.symbols.Profile.{Profile}
-use Rattle.kv_syn.specs.declared.symbols.Profile.TheVariants.{Fun, Pred, Proc}
-use Rattle.kv_syn.specs.declared.symbols.Symbol.{Symbol}
-use Rattle.kv_syn.specs.declared.symbols.Var.{Var}
-use Rattle.kv_table.specs.declared.reason.TheConstants as reason
+use Rattle.kv_names.specs.declared.symbols.Profile.{Profile}
+use Rattle.kv_names.specs.declared.symbols.Profile.TheVariants.{Fun, Pred, Proc}
+use Rattle.kv_names.specs.declared.symbols.Symbol.{Symbol}
+use Rattle.kv_names.specs.declared.symbols.Var.{Var}
+use Rattle.kv_table.specs.Reasons as reason
 
 abbrev profile_in : Option Symbol → Option Profile
 profile_in found = option_map (λ (x : Symbol). x.profile) found

@@ -10,11 +10,11 @@ use Rattle.kv_flat.specs.Faults.{Finds}
 use Rattle.kv_flat.specs.declared.faults.FlatError.{FlatError}
 use Rattle.kv_flat.specs.declared.faults.FlatError.TheVariants as fault
 use Rattle.kv_flat.specs.Items.{fault_of, first_of, parameters_fault, repetition, sort_fault}
-use Rattle.kv_syn.specs.Trees.{Name}
+use Rattle.kv_names.specs.Names.{Name}
 use Rattle.kv_syn.specs.declared.outcomes.Reason.{Reason}
-use Rattle.kv_syn.specs.declared.symbols.Symbol.{Symbol}
-use Rattle.kv_syn.specs.declared.symbols.Var.{Var}
-use Rattle.kv_table.specs.declared.reason.TheConstants as reason
+use Rattle.kv_names.specs.declared.symbols.Symbol.{Symbol}
+use Rattle.kv_names.specs.declared.symbols.Var.{Var}
+use Rattle.kv_table.specs.Reasons as reason
 
 -- the set has these names and no others
 unfoldable pub HasNames : {S : Type 0} → List Name → HashSet (Bor (List ℕ)) S → Type 0

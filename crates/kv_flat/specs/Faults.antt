@@ -2,7 +2,7 @@
 use Rattle.std.specs.Prelude.{◌≡◌, Bool, true, List, Option, Some, None, Result, Ok, Err}
 use Rattle.kv_syn.specs.Rows.{has_reason_row}
 use Rattle.kv_syn.specs.declared.outcomes.Reason.{Reason}
-use Rattle.kv_syn.specs.declared.symbols.Symbol.{Symbol}
+use Rattle.kv_names.specs.declared.symbols.Symbol.{Symbol}
 use Rattle.kv_flat.specs.declared.faults.FlatError.{FlatError}
 use Rattle.kv_flat.specs.declared.faults.FlatError.TheVariants.{Bad, NoMemory}
 

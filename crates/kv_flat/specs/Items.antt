@@ -6,13 +6,13 @@ use Rattle.kv_sig.specs.Signatures.{added, profile_of}
 use Rattle.kv_sig.specs.declared.sigs.SigError.{SigError}
 use Rattle.kv_sig.specs.declared.sigs.SigError.TheVariants as sig
 use Rattle.kv_syn.specs.Projects as P
-use Rattle.kv_syn.specs.Trees.{Name}
+use Rattle.kv_names.specs.Names.{Name}
 use Rattle.kv_syn.specs.declared.outcomes.Reason.{Reason}
-use Rattle.kv_syn.specs.declared.symbols.Profile.{Profile}
-use Rattle.kv_syn.specs.declared.symbols.Profile.TheVariants.{Sort, Fun, Pred, Proc}
-use Rattle.kv_syn.specs.declared.symbols.Symbol.{Symbol}
-use Rattle.kv_syn.specs.declared.symbols.Var.{Var}
-use Rattle.kv_table.specs.declared.reason.TheConstants as reason
+use Rattle.kv_names.specs.declared.symbols.Profile.{Profile}
+use Rattle.kv_names.specs.declared.symbols.Profile.TheVariants.{Sort, Fun, Pred, Proc}
+use Rattle.kv_names.specs.declared.symbols.Symbol.{Symbol}
+use Rattle.kv_names.specs.declared.symbols.Var.{Var}
+use Rattle.kv_table.specs.Reasons as reason
 
 -- a fault that speaks of one name
 abbrev pub fault_of : ℕ → Name → Reason

@@ -2,7 +2,7 @@
 use Rattle.std.specs.Prelude.{◌≡◌, List, [], Result, Ok, Err}
 use Rattle.kv_syn.specs.Projects as P
 use Rattle.kv_syn.specs.declared.outcomes.Reason.{Reason}
-use Rattle.kv_syn.specs.declared.symbols.Symbol.{Symbol}
+use Rattle.kv_names.specs.declared.symbols.Symbol.{Symbol}
 use Rattle.kv_flat.specs.Items.{with_items}
 use Rattle.kv_flat.specs.declared.flats.Flattened.{Flattened}
 use Rattle.kv_flat.specs.declared.faults.FlatError.{FlatError}

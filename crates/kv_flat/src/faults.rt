@@ -3,6 +3,7 @@
 ghost use Rattle.std.specs.Prelude.{◌≡◌, ◌<◌, true, Some, Err, IfOk};
 ghost use Rattle.kv_flat.specs.Faults.{Finds, has_fault_row};
 ghost use Rattle.kv_flat.specs.Items.{fault_of};
+ghost use Rattle.kv_table.specs.Reasons.{reason_count};
 
 use kv_syn::{Label, List, Name, NoMemory, Reason};
 use std::alloc::Global;
@@ -31,7 +32,7 @@ impl From<NoMemory> for FlatError {
 
 /// The fault that speaks of that name.
 pub fn fault(alloc: Global, word: u32, name: &Name) -> FlatError
-    requires { word < 30 }
+    requires { word < reason_count }
     ensures fault { Finds (Some (fault_of word name.now)) (Err result) }
     ensures row { has_fault_row result ≡ true }
 {

@@ -7,7 +7,7 @@ ghost use Rattle.kv_flat.specs.Faults.{Declares, Finds, has_fault_row};
 ghost use Rattle.kv_flat.specs.Items.{fault_behind, is_sort, or_clash, parameters_fault, sort_fault, sorts_fault, sorts_of, symbol_of, with_item};
 ghost use Rattle.kv_syn.specs.ProjectBridge.{plain_item};
 ghost use Rattle.kv_syn.specs.Readable.{is_readable_item};
-ghost use Rattle.kv_syn.specs.declared.symbols.Var.{Var as VarTree};
+ghost use Rattle.kv_names.specs.declared.symbols.Var.{Var as VarTree};
 
 use crate::faults::{FlatError, fault};
 use kv_sig::{Sig, SigError};

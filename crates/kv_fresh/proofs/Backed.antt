@@ -14,20 +14,23 @@ use Rattle.kv_script.proofs.Lemmas.{IsGiven}
 use Rattle.kv_flat.specs.Units.{signature_of}
 use Rattle.kv_fresh.specs.Backing.{AreProvedTheorems, AreTheoremsBacked, IsBacked, IsOfTheorem, Backing, theory_over}
 use Rattle.kv_script.specs.Reasons.{reason_with}
-use Rattle.kv_fresh.specs.States.{goal_of, idle_row, idle_rows, ill_row, is_idle, is_small, nothing_around, row_of, row_where, rows_of, rows_where, script_of, shown, small_goal, theorem_rows, view_over}
+use Rattle.kv_prop.specs.Limits.{is_small}
+use Rattle.kv_trees.specs.Count.{form_nodes, form_depth}
+use Rattle.kv_fresh.specs.States.{goal_of, idle_row, idle_rows, ill_row, is_idle, nothing_around, row_of, row_where, rows_of, rows_where, script_of, shown, small_goal, theorem_rows, view_over}
 use Rattle.kv_script.specs.Events.{first_fault, goal_count, is_closed, replay_events, used_labels}
 use Rattle.kv_sig.specs.Views.{View}
 use Rattle.kv_sig.specs.FreeNames.{free_form, assumed_form}
 use Rattle.kv_sig.specs.Members.{Every, In, here, there}
 use Rattle.kv_syn.specs.Projects as P
 use Rattle.kv_syn.specs.Scripts.{Script}
-use Rattle.kv_syn.specs.Trees.{Form, Name}
+use Rattle.kv_names.specs.Names.{Name}
+use Rattle.kv_trees.specs.Trees.{Form}
 use Rattle.kv_syn.specs.declared.outcomes.Fault.{Fault}
 use Rattle.kv_syn.specs.declared.outcomes.Reason.{Reason}
 use Rattle.kv_syn.specs.declared.outcomes.Row.{Row}
 use Rattle.kv_syn.specs.declared.outcomes.State.TheVariants.{Ill, Open, Proved, Idle}
-use Rattle.kv_syn.specs.declared.symbols.Symbol.{Symbol}
-use Rattle.kv_table.specs.declared.reason.TheConstants as reason
+use Rattle.kv_names.specs.declared.symbols.Symbol.{Symbol}
+use Rattle.kv_table.specs.Reasons as reason
 
 -- what is shown as proved is closed
 closed_when : (fault : Option Fault) (n : ℕ) → shown fault (min n (2 ^ 64 - 1)) ≡ Proved → (n == 0 && is_none fault) ≡ true
@@ -50,9 +53,9 @@ typed_goal (Ok g) f e =
     let small : Result Form Reason = Ok g in
     let large : Result Form Reason = Err (reason_with reason.LARGE []) in
     ⊎_elim
-    (λ y. let same : small ≡ Ok f = sym (cond-true (is_small g) small large y) ∙ e in cc)
-    (λ n. let other : large ≡ Ok f = sym (cond-false (is_small g) small large n) ∙ e in cc)
-    (cases_Bool (is_small g))
+    (λ y. let same : small ≡ Ok f = sym (cond-true (is_small (form_nodes g) (form_depth g)) small large y) ∙ e in cc)
+    (λ n. let other : large ≡ Ok f = sym (cond-false (is_small (form_nodes g) (form_depth g)) small large n) ∙ e in cc)
+    (cases_Bool (is_small (form_nodes g) (form_depth g)))
 
 no_member : {A : Type 0} {x : A} (xs : List A) → xs ≡ [] → In x (xs ++ []) → ⊥
 no_member [] e i = elim i [ ]
@@ -64,6 +67,7 @@ good_goal signature theorem f e =
     let typed = typed_goal (elab_form signature nothing_around theorem.form) f e in
     let closed = form_closed signature nothing_around theorem.form f refl refl typed in
     record {
+      lawful = tt;
       consistent = record {
         sorts = λ x y i j same. absurd (no_member (free_form f) closed.variables i);
         profiles = λ p q i j same. absurd (no_member (assumed_form f) closed.procedures i);

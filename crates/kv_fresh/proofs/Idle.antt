@@ -6,7 +6,7 @@ use Rattle.std.specs.Prelude.{filter}
 use Rattle.kv_fresh.specs.States.{idle_row, is_idle, is_theorem}
 use Rattle.kv_syn.specs.Projects as P
 use Rattle.kv_syn.specs.Rows.{has_row_rows}
-use Rattle.kv_syn.specs.Trees.{Name}
+use Rattle.kv_names.specs.Names.{Name}
 use Rattle.kv_syn.specs.declared.outcomes.Row.{Row}
 
 and_more : (a b c : Bool) → (a && b) ≡ true → (b ≡ true → c ≡ true) → (a && c) ≡ true

@@ -14,7 +14,7 @@ use Rattle.kv_fresh.specs.States.{is_theorem}
 use Rattle.kv_syn.specs.ProjectBridge.{plain_proof}
 use Rattle.kv_syn.specs.Projects as P
 use Rattle.kv_fresh.specs.Indexes.{AreNamesOf, LeadsToFirst, told}
-use Rattle.kv_syn.specs.Trees.{Name}
+use Rattle.kv_names.specs.Names.{Name}
 use Rattle.kv_syn.specs.declared.units.Proof.{Proof}
 
 abbrev pub first_named : List P.Proof → Name → Option P.Proof

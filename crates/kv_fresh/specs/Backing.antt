@@ -5,10 +5,10 @@ use Rattle.kv_flat.specs.Units.{signature_of}
 use Rattle.kv_fresh.specs.States.{goal_of, row_of, table_of}
 use Rattle.kv_sig.specs.Members.{In}
 use Rattle.kv_syn.specs.Projects as P
-use Rattle.kv_syn.specs.Trees.{Form}
+use Rattle.kv_trees.specs.Trees.{Form}
 use Rattle.kv_syn.specs.declared.outcomes.Row.{Row}
 use Rattle.kv_syn.specs.declared.outcomes.State.TheVariants.{Proved}
-use Rattle.kv_syn.specs.declared.symbols.Symbol.{Symbol}
+use Rattle.kv_names.specs.declared.symbols.Symbol.{Symbol}
 
 -- what the theorems of a unit may take as given: so far the symbols of its signature alone
 abbrev pub theory_over : List Symbol → Theory

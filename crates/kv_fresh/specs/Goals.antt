@@ -1,9 +1,9 @@
 -- What asking for a theorem's goal answers.
 use Rattle.std.specs.Prelude.{◌≡◌, Result, Ok, Err}
-use Rattle.kv_syn.specs.Bridge.{plain_form}
-use Rattle.kv_syn.specs.Trees.{Form as FormTree}
+use Rattle.kv_trees.specs.Bridge.{plain_form}
+use Rattle.kv_trees.specs.Trees.{Form as FormTree}
 use Rattle.kv_syn.specs.declared.outcomes.Reason.{Reason}
-use Rattle.kv_syn.specs.declared.trees.Form.{Form}
+use Rattle.kv_trees.specs.declared.trees.Form.{Form}
 
 -- the formula, or why it is ill
 abbrev pub GoalIs : Result Form Reason → Result FormTree Reason → Type 0

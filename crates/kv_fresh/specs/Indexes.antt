@@ -9,7 +9,7 @@ use Rattle.std.specs.Str.{bytes_eq}
 use Rattle.kv_fresh.specs.States.{is_theorem}
 use Rattle.kv_syn.specs.ProjectBridge.{plain_proof}
 use Rattle.kv_syn.specs.Projects as P
-use Rattle.kv_syn.specs.Trees.{Name}
+use Rattle.kv_names.specs.Names.{Name}
 use Rattle.kv_syn.specs.declared.units.Proof.{Proof}
 
 -- the proof that an index leads to from a name

@@ -3,3 +3,5 @@ pub mod Goals
 pub mod Indexes
 pub mod Tables
 pub mod Backing
+pub mod Flats
+pub mod Work

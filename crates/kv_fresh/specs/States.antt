@@ -6,15 +6,16 @@ use Rattle.kv_elab.specs.Elab.{elab_form}
 use Rattle.kv_elab.specs.declared.contexts.Context.{Context}
 use Rattle.kv_elab.specs.Typed.{Typed}
 use Rattle.kv_flat.specs.Units.{signature_of}
-use Rattle.kv_prop.specs.declared.limits.TheConstants.{SEQUENT_NODES, SEQUENT_DEPTH}
+use Rattle.kv_prop.specs.Limits.{is_small}
 use Rattle.kv_script.specs.Events.{outcome_of, replay_events}
 use Rattle.kv_script.specs.Reasons.{reason_with, typing_reason}
 use Rattle.kv_sig.specs.Signatures.{profile_of}
 use Rattle.kv_sig.specs.Views.{View, formula_of}
-use Rattle.kv_syn.specs.Count.{form_nodes, form_depth}
+use Rattle.kv_trees.specs.Count.{form_nodes, form_depth}
 use Rattle.kv_syn.specs.Projects as P
 use Rattle.kv_syn.specs.Scripts.{Script}
-use Rattle.kv_syn.specs.Trees.{Name, Form}
+use Rattle.kv_names.specs.Names.{Name}
+use Rattle.kv_trees.specs.Trees.{Form}
 use Rattle.kv_syn.specs.declared.outcomes.Fault.{Fault}
 use Rattle.kv_syn.specs.declared.outcomes.Outcome.{Outcome}
 use Rattle.kv_syn.specs.declared.outcomes.Reason.{Reason}
@@ -24,18 +25,15 @@ use Rattle.kv_syn.specs.declared.outcomes.State.TheVariants.{Ill, Broken, Open, 
 use Rattle.kv_syn.specs.declared.outcomes.Table.{Table}
 use Rattle.kv_syn.specs.declared.outcomes.UnitState.{UnitState}
 use Rattle.kv_syn.specs.declared.outcomes.UnitState.TheVariants.{Good, Bad}
-use Rattle.kv_syn.specs.declared.symbols.Symbol.{Symbol}
-use Rattle.kv_table.specs.declared.reason.TheConstants as reason
+use Rattle.kv_names.specs.declared.symbols.Symbol.{Symbol}
+use Rattle.kv_table.specs.Reasons as reason
 
 -- axioms and theorems are typed without free variables
 abbrev pub nothing_around : Context
 nothing_around = record { free = []; bound = []; assumed = [] }
 
-abbrev pub is_small : Form → Bool
-is_small goal = nat_le (form_nodes goal) SEQUENT_NODES && nat_le (form_depth goal) SEQUENT_DEPTH
-
 abbrev pub small_goal : Typed Form → Result Form Reason
-small_goal (Ok goal) = if is_small goal then Ok goal else Err (reason_with reason.LARGE [])
+small_goal (Ok goal) = if is_small (form_nodes goal) (form_depth goal) then Ok goal else Err (reason_with reason.LARGE [])
 small_goal (Err fault) = Err (typing_reason fault)
 
 -- a theorem's formula, or why it is ill: its first fault of typing, or that it passes a limit of a sequent

@@ -1,16 +1,19 @@
 // The check of a project.
 
-ghost use Rattle.std.specs.Prelude.{◌≡◌, ◌++◌, ◌∷◌, [], map, true, Ok, Err, IfOk, OnOk};
+ghost use Rattle.std.specs.Prelude.{◌≡◌, ◌+◌, ◌≤◌, ◌++◌, ◌∷◌, [], map, true, Ok, Err, IfOk, OnOk};
 ghost use Rattle.std.specs.List.{list_all};
 ghost use Rattle.kv_flat.specs.Units.{signature_of};
 ghost use Rattle.kv_script.specs.Reasons.{reason_with};
+ghost use Rattle.kv_flat.specs.declared.flats.FlatForm.TheVariants.{Plain};
+ghost use Rattle.kv_fresh.specs.Flats.{flat_row};
 ghost use Rattle.kv_fresh.specs.States.{idle_rows, ill_row, table_of, theorem_rows};
 ghost use Rattle.kv_fresh.specs.Tables.{with_theorems, with_unit};
+ghost use Rattle.kv_fresh.specs.Work.{theorems_work, unit_work, work_of};
 ghost use Rattle.kv_syn.specs.ProjectBridge.{plain_project, plain_proof, plain_theorem, plain_unit};
 ghost use Rattle.kv_syn.specs.Projects as P;
 ghost use Rattle.kv_syn.specs.Readable.{is_readable_unit};
 ghost use Rattle.kv_syn.specs.Rows.{has_row_rows, has_table_rows, has_unit_state_rows};
-ghost use Rattle.kv_table.specs.declared.reason.TheConstants.{UNIT};
+ghost use Rattle.kv_table.specs.Reasons as word;
 
 use crate::indexes::{proofs_by_name, theorem_names};
 use crate::reasons::bare;
@@ -22,14 +25,18 @@ use kv_table::reason;
 use std::alloc::Global;
 use std::sync::ledger::Ledger;
 
-/// Flattens each unit and replays each proof: the flats of the units, and the table of their states.
+/// Flattens each unit and replays each proof: the flats of the units, and the table of their states. Counts one step
+/// for each unit, and those that the replays visit.
 pub fn check<L: Ledger>(
     alloc: Global,
     project: &Project,
     steps: &mut Steps<L>,
 ) -> Result<Checked, NoMemory>
+    ensures flats { IfOk result (λ checked. checked.flats ≡ map flat_row (plain_project project.now)) }
     ensures table { IfOk result (λ checked. checked.table ≡ table_of (plain_project project.now)) }
     ensures rows { IfOk result (λ checked. has_table_rows checked.table ≡ true) }
+    ensures steps { OnOk result (steps.new ≡ steps.old + work_of (plain_project project.now)) }
+    ensures at_most { steps.new ≤ steps.old + work_of (plain_project project.now) }
 {
     let mut checked = Checked {
         flats: List::new(alloc),
@@ -53,8 +60,11 @@ fn check_unit<L: Ledger>(
 ) -> Result<(), NoMemory>
     requires readable { is_readable_unit unit.now ≡ true }
     requires rows { has_table_rows checked.old.table ≡ true }
+    ensures flats { OnOk result (checked.new.flats ≡ checked.old.flats ++ flat_row (plain_unit unit.now) ∷ []) }
     ensures table { OnOk result (checked.new.table ≡ with_unit checked.old.table (plain_unit unit.now)) }
     ensures rows { OnOk result (has_table_rows checked.new.table ≡ true) }
+    ensures steps { OnOk result (steps.new ≡ steps.old + unit_work (plain_unit unit.now) (signature_of (plain_unit unit.now))) }
+    ensures at_most { steps.new ≤ steps.old + unit_work (plain_unit unit.now) (signature_of (plain_unit unit.now)) }
 {
     check_theorems(alloc, unit, checked, steps)?;
     push_idle_rows(alloc, unit, &mut checked.table.rows)
@@ -69,8 +79,11 @@ fn check_theorems<L: Ledger>(
 ) -> Result<(), NoMemory>
     requires readable { is_readable_unit unit.now ≡ true }
     requires rows { has_table_rows checked.old.table ≡ true }
+    ensures flats { OnOk result (checked.new.flats ≡ checked.old.flats ++ flat_row (plain_unit unit.now) ∷ []) }
     ensures table { OnOk result (checked.new.table ≡ with_theorems checked.old.table (plain_unit unit.now)) }
     ensures rows { OnOk result (has_table_rows checked.new.table ≡ true) }
+    ensures steps { OnOk result (steps.new ≡ steps.old + unit_work (plain_unit unit.now) (signature_of (plain_unit unit.now))) }
+    ensures at_most { steps.new ≤ steps.old + unit_work (plain_unit unit.now) (signature_of (plain_unit unit.now)) }
 {
     match flatten(alloc, unit, &checked.flats, steps) {
         Ok(flattened) => {
@@ -98,6 +111,7 @@ fn note(
     requires state { has_unit_state_rows state ≡ true }
     requires rows { has_table_rows checked.old.table ≡ true }
     ensures units { OnOk result (checked.new.table.units ≡ checked.old.table.units ++ (unit.now, state) ∷ []) }
+    ensures flats { OnOk result (checked.new.flats ≡ checked.old.flats ++ record { unit = unit.now; form = Plain; result = judged } ∷ []) }
     ensures same { checked.new.table.rows ≡ checked.old.table.rows }
     ensures rows { OnOk result (has_table_rows checked.new.table ≡ true) }
 {
@@ -121,6 +135,8 @@ fn push_rows<L: Ledger>(
     requires entries { flat.now.entries ≡ [] }
     ensures added { OnOk result (rows.new ≡ rows.old ++ theorem_rows (plain_unit unit.now) (Ok flat.now.sig)) }
     ensures rows { OnOk result (list_all has_row_rows rows.new ≡ true) }
+    ensures steps { OnOk result (steps.new ≡ steps.old + theorems_work flat.now.sig (map plain_proof unit.now.proofs) (map plain_theorem unit.now.theorems)) }
+    ensures at_most { steps.new ≤ steps.old + theorems_work flat.now.sig (map plain_proof unit.now.proofs) (map plain_theorem unit.now.theorems) }
 {
     let proofs = proofs_by_name(alloc, unit.proofs.items())?;
     for theorem in unit.theorems.items() {
@@ -132,7 +148,7 @@ fn push_rows<L: Ledger>(
 /// Adds the rows of the theorems of a bad unit.
 fn push_ill_rows(alloc: Global, unit: &Unit, rows: &mut List<Row>) -> Result<(), NoMemory>
     requires { list_all has_row_rows rows.old ≡ true }
-    ensures added { OnOk result (rows.new ≡ rows.old ++ map (λ (theorem : P.Theorem). ill_row unit.now.name theorem.name (reason_with UNIT [])) (plain_unit unit.now).theorems) }
+    ensures added { OnOk result (rows.new ≡ rows.old ++ map (λ (theorem : P.Theorem). ill_row unit.now.name theorem.name (reason_with word.UNIT [])) (plain_unit unit.now).theorems) }
     ensures rows { OnOk result (list_all has_row_rows rows.new ≡ true) }
 {
     for theorem in unit.theorems.items() {

@@ -1,11 +1,12 @@
 // The rows of theorems and of idle proofs.
 
-ghost use Rattle.std.specs.Prelude.{◌≡◌, [], true, map, Ok, IfOk, IfErr};
+ghost use Rattle.std.specs.Prelude.{◌≡◌, ◌+◌, ◌≤◌, [], true, map, Ok, IfOk, IfErr, OnOk};
 ghost use Rattle.kv_fresh.specs.Goals.{GoalIs};
 ghost use Rattle.kv_fresh.specs.Indexes.{LeadsToFirst, told};
 ghost use Rattle.kv_fresh.specs.States.{goal_of, idle_row, ill_row, nothing_around, replayed_row, row_of, script_or_open, shown, small_goal, view_over};
-ghost use Rattle.kv_script.specs.Events.{outcome_of, replay_events};
-ghost use Rattle.kv_syn.specs.Bridge.{plain_form};
+ghost use Rattle.kv_fresh.specs.Work.{theorem_work};
+ghost use Rattle.kv_script.specs.Events.{outcome_of, replay_events, visits};
+ghost use Rattle.kv_trees.specs.Bridge.{plain_form};
 ghost use Rattle.kv_syn.specs.ProjectBridge.{plain_proof, plain_theorem};
 ghost use Rattle.kv_syn.specs.Rows.{has_fault_rows, has_reason_row, has_row_rows, has_state_rows};
 ghost use Rattle.kv_syn.specs.ScriptBridge.{plain_script};
@@ -26,7 +27,7 @@ use std::collections::HashMap;
 use std::sync::ledger::Ledger;
 
 /// A theorem's row: its state, and the outcome of its proof where it can be asked for. The proofs of its unit are
-/// given by name.
+/// given by name. Counts the steps that the replay visits.
 pub fn row<L: Ledger>(
     alloc: Global,
     unit: &Unit,
@@ -39,6 +40,8 @@ pub fn row<L: Ledger>(
     requires entries { flat.now.entries ≡ [] }
     ensures row { IfOk result (λ row. row ≡ row_of unit.now.name flat.now.sig (map plain_proof unit.now.proofs) (plain_theorem theorem.now)) }
     ensures rows { IfOk result (λ row. has_row_rows row ≡ true) }
+    ensures steps { OnOk result (steps.new ≡ steps.old + theorem_work flat.now.sig (map plain_proof unit.now.proofs) (plain_theorem theorem.now)) }
+    ensures at_most { steps.new ≤ steps.old + theorem_work flat.now.sig (map plain_proof unit.now.proofs) (plain_theorem theorem.now) }
 {
     match goal_of(alloc, flat, theorem)? {
         Ok(goal) => {
@@ -142,6 +145,8 @@ fn replayed<L: Ledger>(
     requires { flat.now.entries ≡ [] }
     ensures outcome { IfOk result (λ outcome. outcome ≡ outcome_of (replay_events (view_over flat.now.sig) (plain_form goal.now) (script_or_open (told proofs.now name.now)))) }
     ensures rows { IfOk result (λ outcome. has_fault_rows outcome.broken ≡ true) }
+    ensures steps { OnOk result (steps.new ≡ steps.old + visits (replay_events (view_over flat.now.sig) (plain_form goal.now) (script_or_open (told proofs.now name.now)))) }
+    ensures at_most { steps.new ≤ steps.old + visits (replay_events (view_over flat.now.sig) (plain_form goal.now) (script_or_open (told proofs.now name.now))) }
 {
     let env = Env { flat, before: 0 };
     match proof_named(proofs, name) {

@@ -1,16 +1,17 @@
 -- The free names of formulas, from what is told of each of them.
-use Rattle.std.proofs.Common.{◌≡◌, true, List, [], ◌∷◌, ◌++◌, refl, sym, ap, ap₂, ◌∙◌}
+use Rattle.std.proofs.Common.{◌≡◌, List, [], ◌∷◌, ◌++◌, refl, ap, ap₂, ◌∙◌}
 use Rattle.std.specs.Prelude.{Result, Ok, Err, IfOk}
 use Rattle.std.specs.List.{list_any}
 use Rattle.std.specs.Str.{bytes_eq}
-use Rattle.kv_sig.specs.FreeNames.{free_form, free_forms, assumed_form, assumed_forms, free_sequent, assumed_sequent}
-use Rattle.kv_syn.proofs.Same.{name_is}
-use Rattle.kv_syn.specs.Trees.{Name, Form, Sequent}
-use Rattle.kv_syn.specs.declared.symbols.Profile.{Profile}
-use Rattle.kv_syn.specs.declared.symbols.Var.{Var}
+use Rattle.kv_sig.specs.FreeNames.{free_form, free_forms, assumed_form, assumed_forms}
+use Rattle.kv_trees.proofs.Same.{name_is}
+use Rattle.kv_names.specs.Names.{Name}
+use Rattle.kv_trees.specs.Trees.{Form, Sequent}
+use Rattle.kv_names.specs.declared.symbols.Profile.{Profile}
+use Rattle.kv_names.specs.declared.symbols.Var.{Var}
 use Rattle.kv_goal.proofs.Onces.{Respects, any_once, once_each}
 use Rattle.kv_goal.specs.ByName.{each, variables_each, procedures_each, variables_by_name, procedures_by_name}
-use Rattle.kv_goal.specs.Once.{once, same_variable, same_procedure, variables_once, procedures_once}
+use Rattle.kv_goal.specs.Once.{same_variable, same_procedure, variables_once, procedures_once}
 
 -- tests that go by the name alone
 by_name : (n : Name) → Respects same_variable (λ (y : Var). bytes_eq y.name n)

@@ -2,15 +2,15 @@
 use Rattle.std.proofs.Common.{◌≡◌, List, ◌++◌, append_assoc, ap, ◌∙◌, inl, inr, subst, sym, Ok, Err, Result}
 use Rattle.std.specs.Prelude.{OnOk, ◌⊎◌}
 use Rattle.kv_sig.specs.FreeNames.{assumed_form, assumed_prog}
-use Rattle.kv_syn.specs.Bridge.{plain_form, plain_prog, plain_form_step, plain_prog_step}
-use Rattle.kv_syn.specs.Trees as P
-use Rattle.kv_syn.specs.Trees.{Name}
-use Rattle.kv_syn.specs.declared.trees.Form as code
-use Rattle.kv_syn.specs.declared.trees.Form.{Form, fold-roll-Form}
-use Rattle.kv_syn.specs.declared.trees.Form.TheOpen as open_tree
-use Rattle.kv_syn.specs.declared.trees.Prog as coded
-use Rattle.kv_syn.specs.declared.trees.Prog.{Prog, fold-roll-Prog}
-use Rattle.kv_syn.specs.declared.symbols.Profile.{Profile}
+use Rattle.kv_trees.specs.Bridge.{plain_form, plain_prog, plain_form_step, plain_prog_step}
+use Rattle.kv_trees.specs.Trees as P
+use Rattle.kv_names.specs.Names.{Name}
+use Rattle.kv_trees.specs.declared.trees.Form as code
+use Rattle.kv_trees.specs.declared.trees.Form.{Form, fold-roll-Form}
+use Rattle.kv_trees.specs.declared.trees.Form.TheOpen as open_tree
+use Rattle.kv_trees.specs.declared.trees.Prog as coded
+use Rattle.kv_trees.specs.declared.trees.Prog.{Prog, fold-roll-Prog}
+use Rattle.kv_names.specs.declared.symbols.Profile.{Profile}
 
 abbrev pub Adds : {R E : Type 0} → Result R E → (before after xs : List (Name × Profile)) → Type 0
 Adds result before after xs = OnOk result (after ≡ before ++ xs)

@@ -1,9 +1,10 @@
 -- The free names of a sequent.
 use Rattle.std.specs.Prelude.{List, [], ◌∷◌, ◌++◌}
 use Rattle.kv_sig.specs.FreeNames.{free_form, assumed_form, free_sequent, assumed_sequent}
-use Rattle.kv_syn.specs.Trees.{Name, Form, Sequent}
-use Rattle.kv_syn.specs.declared.symbols.Profile.{Profile}
-use Rattle.kv_syn.specs.declared.symbols.Var.{Var}
+use Rattle.kv_names.specs.Names.{Name}
+use Rattle.kv_trees.specs.Trees.{Form, Sequent}
+use Rattle.kv_names.specs.declared.symbols.Profile.{Profile}
+use Rattle.kv_names.specs.declared.symbols.Var.{Var}
 use Rattle.kv_goal.specs.Once.{variables_once, procedures_once}
 
 -- the free variables and the assumed procedures of a sequent, each name once

@@ -1,8 +1,8 @@
 -- A goal as the sequent that it is.
 use Rattle.std.specs.Prelude.{map}
 use Rattle.kv_sig.specs.Sequents.{sequent}
-use Rattle.kv_syn.specs.Bridge.{plain_form}
-use Rattle.kv_syn.specs.Trees.{Form, Sequent}
+use Rattle.kv_trees.specs.Bridge.{plain_form}
+use Rattle.kv_trees.specs.Trees.{Form, Sequent}
 use Rattle.kv_goal.specs.declared.goals.Goal.{Goal}
 use Rattle.kv_goal.specs.declared.known.Known.{Known}
 

@@ -1,8 +1,8 @@
 -- What is told of a formula once.
 use Rattle.std.specs.Prelude.{◌≡◌}
 use Rattle.kv_sig.specs.FreeNames.{free_form, assumed_form}
-use Rattle.kv_syn.specs.Count.{form_nodes, form_depth}
-use Rattle.kv_syn.specs.Trees.{Form}
+use Rattle.kv_trees.specs.Count.{form_nodes, form_depth}
+use Rattle.kv_trees.specs.Trees.{Form}
 use Rattle.kv_goal.specs.Measures.{Measures}
 use Rattle.kv_goal.specs.Once.{variables_once, procedures_once}
 use Rattle.kv_goal.specs.declared.note.Note.{Note}

@@ -2,9 +2,9 @@
 use Rattle.std.specs.Prelude.{Bool, if◌then◌else◌, List, [], ◌∷◌, ◌++◌}
 use Rattle.std.specs.List.{list_any}
 use Rattle.std.specs.Str.{bytes_eq}
-use Rattle.kv_syn.specs.Trees.{Name}
-use Rattle.kv_syn.specs.declared.symbols.Profile.{Profile}
-use Rattle.kv_syn.specs.declared.symbols.Var.{Var}
+use Rattle.kv_names.specs.Names.{Name}
+use Rattle.kv_names.specs.declared.symbols.Profile.{Profile}
+use Rattle.kv_names.specs.declared.symbols.Var.{Var}
 
 -- the seen items, and then each other one where it comes first
 abbrev pub once_after : {T : Type 0} → (T → T → Bool) → List T → List T → List T

@@ -5,7 +5,7 @@ ghost use Rattle.std.specs.List.{list_any};
 ghost use Rattle.std.specs.Str.{bytes_eq};
 ghost use Rattle.kv_sig.specs.FreeNames.{free_form, free_forms, free_sequent, assumed_form, assumed_forms, assumed_sequent};
 ghost use Rattle.kv_sig.specs.Sequents.{sequent, side_of};
-ghost use Rattle.kv_syn.specs.Bridge.{plain_form, plain_sequent};
+ghost use Rattle.kv_trees.specs.Bridge.{plain_form, plain_sequent};
 ghost use Rattle.kv_goal.specs.ByName.{variables_by_name, procedures_by_name, variables_each, procedures_each};
 ghost use Rattle.kv_goal.specs.Once.{variables_once, procedures_once};
 ghost use Rattle.kv_goal.specs.Goals.{plain_known, plain_goal};

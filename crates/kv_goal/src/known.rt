@@ -1,8 +1,8 @@
 // Formulas with what is told of them.
 
 ghost use Rattle.std.specs.Prelude.{◌≡◌, IfOk};
-ghost use Rattle.kv_syn.specs.Bridge.{plain_form};
-ghost use Rattle.kv_syn.specs.Count.{form_nodes, form_depth};
+ghost use Rattle.kv_trees.specs.Bridge.{plain_form};
+ghost use Rattle.kv_trees.specs.Count.{form_nodes, form_depth};
 ghost use Rattle.kv_goal.specs.Measures.{Measures};
 ghost use Rattle.kv_goal.specs.Notes.{Describes};
 

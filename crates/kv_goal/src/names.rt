@@ -2,7 +2,7 @@
 
 ghost use Rattle.std.specs.Prelude.{◌≡◌, ◌++◌, OnOk};
 ghost use Rattle.kv_sig.specs.FreeNames.{assumed_callee, assumed_form, assumed_prog, free_form, free_prog, free_ref, free_refs, free_term, free_terms};
-ghost use Rattle.kv_syn.specs.Bridge.{plain_form, plain_prog, plain_term, plain_terms};
+ghost use Rattle.kv_trees.specs.Bridge.{plain_form, plain_prog, plain_term, plain_terms};
 
 use kv_syn::{Callee, Form, List, Name, NoMemory, Plain, Profile, Prog, Ref, Shared, Term, Var};
 use std::alloc::Global;

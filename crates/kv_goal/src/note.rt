@@ -1,7 +1,7 @@
 // What is told of a formula once.
 
 ghost use Rattle.std.specs.Prelude.{IfOk};
-ghost use Rattle.kv_syn.specs.Bridge.{plain_form};
+ghost use Rattle.kv_trees.specs.Bridge.{plain_form};
 ghost use Rattle.kv_goal.specs.Notes.{Describes};
 
 use crate::names::{push_assumed_form, push_free_form};

@@ -1,8 +1,8 @@
 // How large trees are.
 
 ghost use Rattle.std.specs.Prelude.{◌≡◌, ◌+◌, ◌-◌, ◌^◌, min, max};
-ghost use Rattle.kv_syn.specs.Bridge.{plain_term, plain_terms, plain_form, plain_prog};
-ghost use Rattle.kv_syn.specs.Count.{term_nodes, term_depth, terms_nodes, terms_depth, form_nodes, form_depth, prog_nodes, prog_depth};
+ghost use Rattle.kv_trees.specs.Bridge.{plain_term, plain_terms, plain_form, plain_prog};
+ghost use Rattle.kv_trees.specs.Count.{term_nodes, term_depth, terms_nodes, terms_depth, form_nodes, form_depth, prog_nodes, prog_depth};
 ghost use Rattle.kv_goal.specs.Measures.{Measures};
 
 use kv_syn::{Form, Prog, Term};

@@ -8,7 +8,7 @@ use Rattle.std.proofs.Math.Seq.{take-append-add}
 use Rattle.kv_io.specs.Framing.{Line, onto_first, lines_of, bytes_of, is_full_stop, is_blank, Split, before, before_parts, behind_command, split_lines, split_of, Ending, End, Cut, TooLong, Cutting, at_once, and_first, limited, ending_of, framed, cut_of}
 use Rattle.kv_io.specs.Lines.{IsTooLong, cut_within}
 use Rattle.kv_io.specs.Reading.{IsFree}
-use Rattle.kv_io.specs.declared.reading.TheConstants.{COMMAND_LIMIT, INPUT_LIMIT}
+use Rattle.kv_io.specs.Limits.{command_limit, input_limit}
 
 lines-feed : (text bytes : List ℕ) → IsFree text → lines_of (text ++ 10 ∷ bytes) ≡ record { text = text; fed = true } ∷ lines_of bytes
 unfolding lines_of
@@ -96,48 +96,48 @@ unfolding split_of
 split-never closed [] more free never = (split_of closed more, sym (before-nil (split_of closed more)))
 split-never closed (b ∷ text) more free never = rw (lines-onto b text more free) (split-onto closed (b ∷ text) (lines_of more) never)
 
-limited-long : (command : List ℕ) (commands : List (List ℕ)) (ending : Ending) → COMMAND_LIMIT < length command → limited (command ∷ commands) ending ≡ at_once TooLong
-limited-long command commands ending h = rw (lt-leb (length command) COMMAND_LIMIT h) refl
+limited-long : (command : List ℕ) (commands : List (List ℕ)) (ending : Ending) → command_limit < length command → limited (command ∷ commands) ending ≡ at_once TooLong
+limited-long command commands ending h = rw (lt-leb (length command) command_limit h) refl
 
-long-rest : (front rest : List ℕ) → COMMAND_LIMIT < length front → nat_le (length (front ++ rest)) COMMAND_LIMIT ≡ false
-long-rest front rest h = lt-leb (length (front ++ rest)) COMMAND_LIMIT (omega (arith, length-append front rest))
+long-rest : (front rest : List ℕ) → command_limit < length front → nat_le (length (front ++ rest)) command_limit ≡ false
+long-rest front rest h = lt-leb (length (front ++ rest)) command_limit (omega (arith, length-append front rest))
 
-long-before : (closed : Bool) (front : List ℕ) (commands : List (List ℕ)) (rest : List ℕ) → COMMAND_LIMIT < length front → (let s = before_parts front commands rest in limited s.commands (if closed then ending_of s.rest else TooLong)) ≡ at_once TooLong
+long-before : (closed : Bool) (front : List ℕ) (commands : List (List ℕ)) (rest : List ℕ) → command_limit < length front → (let s = before_parts front commands rest in limited s.commands (if closed then ending_of s.rest else TooLong)) ≡ at_once TooLong
 long-before true front [] rest h = rw (long-rest front rest h) refl
 long-before false front [] rest h = refl
 long-before closed front (c ∷ cs) rest h = limited-long (front ++ c) cs (if closed then ending_of rest else TooLong) (omega (arith, length-append front c))
 
 -- too many bytes before all that follows
-pub framed-before : (closed : Bool) (bytes front : List ℕ) (s : Split) → split_of closed bytes ≡ before front s → COMMAND_LIMIT < length front → framed closed bytes ≡ at_once TooLong
+pub framed-before : (closed : Bool) (bytes front : List ℕ) (s : Split) → split_of closed bytes ≡ before front s → command_limit < length front → framed closed bytes ≡ at_once TooLong
 unfolding framed
 framed-before closed bytes front s e h = rw e (long-before closed front s.commands s.rest h)
 
 -- too many bytes before the first end line
-pub framed-long : (closed : Bool) (bytes command : List ℕ) (s : Split) → split_of closed bytes ≡ behind_command command s → COMMAND_LIMIT < length command → framed closed bytes ≡ at_once TooLong
+pub framed-long : (closed : Bool) (bytes command : List ℕ) (s : Split) → split_of closed bytes ≡ behind_command command s → command_limit < length command → framed closed bytes ≡ at_once TooLong
 unfolding framed
 framed-long closed bytes command s e h = rw e (limited-long command s.commands (if closed then ending_of s.rest else TooLong) h)
 
 -- a command that isn't too long
-pub framed-command : (closed : Bool) (bytes command rest : List ℕ) → split_of closed bytes ≡ behind_command command (split_of closed rest) → length command ≤ COMMAND_LIMIT → framed closed bytes ≡ and_first command (framed closed rest)
+pub framed-command : (closed : Bool) (bytes command rest : List ℕ) → split_of closed bytes ≡ behind_command command (split_of closed rest) → length command ≤ command_limit → framed closed bytes ≡ and_first command (framed closed rest)
 unfolding framed
-framed-command closed bytes command rest e h = rw (e, le-leb (length command) COMMAND_LIMIT h) refl
+framed-command closed bytes command rest e h = rw (e, le-leb (length command) command_limit h) refl
 
 -- no command in all of the input
 pub framed-rest : (bytes : List ℕ) (ending : Ending) → split_of true bytes ≡ record { commands = []; rest = bytes } → ending_of bytes ≡ ending → framed true bytes ≡ at_once ending
 unfolding framed
 framed-rest bytes ending e f = rw (e, f) refl
 
-pub ending-long : (bytes : List ℕ) → COMMAND_LIMIT < length bytes → ending_of bytes ≡ TooLong
-ending-long bytes h = rw (lt-leb (length bytes) COMMAND_LIMIT h) refl
+pub ending-long : (bytes : List ℕ) → command_limit < length bytes → ending_of bytes ≡ TooLong
+ending-long bytes h = rw (lt-leb (length bytes) command_limit h) refl
 
-pub ending-blank : (bytes : List ℕ) → length bytes ≤ COMMAND_LIMIT → list_all is_blank bytes ≡ true → ending_of bytes ≡ End
-ending-blank bytes h e = rw (le-leb (length bytes) COMMAND_LIMIT h, e) refl
+pub ending-blank : (bytes : List ℕ) → length bytes ≤ command_limit → list_all is_blank bytes ≡ true → ending_of bytes ≡ End
+ending-blank bytes h e = rw (le-leb (length bytes) command_limit h, e) refl
 
-pub ending-cut : (bytes : List ℕ) → length bytes ≤ COMMAND_LIMIT → list_all is_blank bytes ≡ false → ending_of bytes ≡ Cut
-ending-cut bytes h e = rw (le-leb (length bytes) COMMAND_LIMIT h, e) refl
+pub ending-cut : (bytes : List ℕ) → length bytes ≤ command_limit → list_all is_blank bytes ≡ false → ending_of bytes ≡ Cut
+ending-cut bytes h e = rw (le-leb (length bytes) command_limit h, e) refl
 
 -- bytes of a fitting length with no command aren't too long
-pub short-rest : (bytes : List ℕ) → length bytes ≤ COMMAND_LIMIT → split_of true bytes ≡ record { commands = []; rest = bytes } → framed true bytes ≡ at_once TooLong → ⊥
+pub short-rest : (bytes : List ℕ) → length bytes ≤ command_limit → split_of true bytes ≡ record { commands = []; rest = bytes } → framed true bytes ≡ at_once TooLong → ⊥
 unfolding framed
 short-rest bytes h e long =
     let ending : limited [] (ending_of bytes) ≡ at_once TooLong = subst (λ s. limited s.commands (ending_of s.rest) ≡ at_once TooLong) e long in
@@ -145,54 +145,54 @@ short-rest bytes h e long =
       | true ↦ λ p. (let e : End ≡ TooLong = ap (λ (c : Cutting). c.ending) p in cc)
       | false ↦ λ p. (let e : Cut ≡ TooLong = ap (λ (c : Cutting). c.ending) p in cc)
     ]
-    (subst (λ b. at_once (if b then (if list_all is_blank bytes then End else Cut) else TooLong) ≡ at_once TooLong) (le-leb (length bytes) COMMAND_LIMIT h) ending)
+    (subst (λ b. at_once (if b then (if list_all is_blank bytes then End else Cut) else TooLong) ≡ at_once TooLong) (le-leb (length bytes) command_limit h) ending)
 
 -- a fitting command isn't too long
-pub short-command : (closed : Bool) (bytes command : List ℕ) (s : Split) → split_of closed bytes ≡ behind_command command s → length command ≤ COMMAND_LIMIT → framed closed bytes ≡ at_once TooLong → ⊥
+pub short-command : (closed : Bool) (bytes command : List ℕ) (s : Split) → split_of closed bytes ≡ behind_command command s → length command ≤ command_limit → framed closed bytes ≡ at_once TooLong → ⊥
 unfolding framed
 short-command closed bytes command s e h long =
     let first : and_first command (limited s.commands (if closed then ending_of s.rest else TooLong)) ≡ at_once TooLong =
-    subst (λ b. (if b then and_first command (limited s.commands (if closed then ending_of s.rest else TooLong)) else at_once TooLong) ≡ at_once TooLong) (le-leb (length command) COMMAND_LIMIT h)
+    subst (λ b. (if b then and_first command (limited s.commands (if closed then ending_of s.rest else TooLong)) else at_once TooLong) ≡ at_once TooLong) (le-leb (length command) command_limit h)
     (subst (λ r. limited r.commands (if closed then ending_of r.rest else TooLong) ≡ at_once TooLong) e long) in
     let none : command ∷ (limited s.commands (if closed then ending_of s.rest else TooLong)).commands ≡ [] = ap (λ (c : Cutting). c.commands) first in
     cc
 
-pub cut_within-command : (read : ℕ) (bytes command next rest : List ℕ) → ((closed : Bool) (more : List ℕ) → split_of closed (bytes ++ more) ≡ behind_command command (split_of closed (next ++ more))) → length command ≤ COMMAND_LIMIT → cut_within read bytes rest ≡ and_first command (cut_within read next rest)
+pub cut_within-command : (read : ℕ) (bytes command next rest : List ℕ) → ((closed : Bool) (more : List ℕ) → split_of closed (bytes ++ more) ≡ behind_command command (split_of closed (next ++ more))) → length command ≤ command_limit → cut_within read bytes rest ≡ and_first command (cut_within read next rest)
 unfolding cut_within
 cut_within-command read bytes command next rest e h =
-    elim (nat_le (read + length rest) INPUT_LIMIT) as (λ b. (if b then framed true (bytes ++ rest) else framed false (bytes ++ take (INPUT_LIMIT - read) rest)) ≡ and_first command (if b then framed true (next ++ rest) else framed false (next ++ take (INPUT_LIMIT - read) rest))) [
+    elim (nat_le (read + length rest) input_limit) as (λ b. (if b then framed true (bytes ++ rest) else framed false (bytes ++ take (input_limit - read) rest)) ≡ and_first command (if b then framed true (next ++ rest) else framed false (next ++ take (input_limit - read) rest))) [
       | true ↦ framed-command true (bytes ++ rest) command (next ++ rest) (e true rest) h
-      | false ↦ framed-command false (bytes ++ take (INPUT_LIMIT - read) rest) command (next ++ take (INPUT_LIMIT - read) rest) (e false (take (INPUT_LIMIT - read) rest)) h
+      | false ↦ framed-command false (bytes ++ take (input_limit - read) rest) command (next ++ take (input_limit - read) rest) (e false (take (input_limit - read) rest)) h
     ]
 
 pub cut_within-long : (read : ℕ) (bytes rest : List ℕ) → IsTooLong bytes → cut_within read bytes rest ≡ at_once TooLong
 unfolding cut_within
 cut_within-long read bytes rest long =
-    elim (nat_le (read + length rest) INPUT_LIMIT) as (λ b. (if b then framed true (bytes ++ rest) else framed false (bytes ++ take (INPUT_LIMIT - read) rest)) ≡ at_once TooLong) [
+    elim (nat_le (read + length rest) input_limit) as (λ b. (if b then framed true (bytes ++ rest) else framed false (bytes ++ take (input_limit - read) rest)) ≡ at_once TooLong) [
       | true ↦ long true rest
-      | false ↦ long false (take (INPUT_LIMIT - read) rest)
+      | false ↦ long false (take (input_limit - read) rest)
     ]
 
 -- bytes that are read move from the rest to what is ahead
-pub cut_within-read : (read : ℕ) (bytes piece rest : List ℕ) → read + length piece ≤ INPUT_LIMIT → cut_within read bytes (piece ++ rest) ≡ cut_within (read + length piece) (bytes ++ piece) rest
+pub cut_within-read : (read : ℕ) (bytes piece rest : List ℕ) → read + length piece ≤ input_limit → cut_within read bytes (piece ++ rest) ≡ cut_within (read + length piece) (bytes ++ piece) rest
 unfolding cut_within
 cut_within-read read bytes piece rest h =
     let sizes : read + length (piece ++ rest) ≡ (read + length piece) + length rest = omega (arith, length-append piece rest) in
-    let room : INPUT_LIMIT - read ≡ length piece + (INPUT_LIMIT - (read + length piece)) = omega arith in
-    let fronts : take (INPUT_LIMIT - read) (piece ++ rest) ≡ piece ++ take (INPUT_LIMIT - (read + length piece)) rest = ap (λ n. take n (piece ++ rest)) room ∙ take-append-add piece rest (INPUT_LIMIT - (read + length piece)) in
-    rw (sizes, fronts, ← append_assoc bytes piece rest, ← append_assoc bytes piece (take (INPUT_LIMIT - (read + length piece)) rest)) refl
+    let room : input_limit - read ≡ length piece + (input_limit - (read + length piece)) = omega arith in
+    let fronts : take (input_limit - read) (piece ++ rest) ≡ piece ++ take (input_limit - (read + length piece)) rest = ap (λ n. take n (piece ++ rest)) room ∙ take-append-add piece rest (input_limit - (read + length piece)) in
+    rw (sizes, fronts, ← append_assoc bytes piece rest, ← append_assoc bytes piece (take (input_limit - (read + length piece)) rest)) refl
 
 -- nothing is left of the input
-pub cut_within-end : (read : ℕ) (bytes : List ℕ) → read ≤ INPUT_LIMIT → cut_within read bytes [] ≡ framed true bytes
+pub cut_within-end : (read : ℕ) (bytes : List ℕ) → read ≤ input_limit → cut_within read bytes [] ≡ framed true bytes
 unfolding cut_within
-cut_within-end read bytes h = rw (le-leb (read + 0) INPUT_LIMIT (omega arith), append-nil bytes) refl
+cut_within-end read bytes h = rw (le-leb (read + 0) input_limit (omega arith), append-nil bytes) refl
 
 -- the input goes on behind its limit
-pub cut_within-past : (read : ℕ) (bytes rest : List ℕ) → read ≡ INPUT_LIMIT → 0 < length rest → split_of false bytes ≡ record { commands = []; rest = bytes } → cut_within read bytes rest ≡ at_once TooLong
+pub cut_within-past : (read : ℕ) (bytes rest : List ℕ) → read ≡ input_limit → 0 < length rest → split_of false bytes ≡ record { commands = []; rest = bytes } → cut_within read bytes rest ≡ at_once TooLong
 unfolding cut_within framed
 cut_within-past read bytes rest e h none =
-    let past : nat_le (read + length rest) INPUT_LIMIT ≡ false = lt-leb (read + length rest) INPUT_LIMIT (omega arith) in
-    let room : INPUT_LIMIT - read ≡ 0 = omega arith in
+    let past : nat_le (read + length rest) input_limit ≡ false = lt-leb (read + length rest) input_limit (omega arith) in
+    let room : input_limit - read ≡ 0 = omega arith in
     rw (past, room, append-nil bytes, none) refl
 
 -- all of an input, before anything was read

@@ -7,7 +7,7 @@ use Rattle.std.proofs.lemmas.Bool.Decides.{nat_tests}
 use Rattle.kv_io.specs.Framing.{Split, lines_of, before, behind_command, split_of, is_full_stop, whole_commands, framed, at_once, TooLong}
 use Rattle.kv_io.specs.Lines.{IsTooLong}
 use Rattle.kv_io.specs.Reading.{IsFree, HasFeed, StartsLine, IsScanned, HasCommand, IsLast, may_be_full_stop}
-use Rattle.kv_io.specs.declared.reading.TheConstants.{COMMAND_LIMIT}
+use Rattle.kv_io.specs.Limits.{command_limit}
 use Rattle.kv_io.proofs.Cuts.{before-nil, before-append, before-behind, split-feed, split-stop, split-open, split-last, split-last_stop, split-never, framed-before, framed-long, short-rest, short-command}
 
 pub test-false : (a b : ℕ) → (a ≡ b → ⊥) → (a == b) ≡ false
@@ -191,13 +191,13 @@ split-closed_stop bytes line last stop =
     ∙ ap (λ c. record { commands = c ∷ []; rest = [] }) (append-nil (take line bytes))
 
 -- too many bytes before an end line
-pub long-command : (bytes : List ℕ) (command next : ℕ) → HasCommand bytes command next → COMMAND_LIMIT < command → IsTooLong bytes
+pub long-command : (bytes : List ℕ) (command next : ℕ) → HasCommand bytes command next → command_limit < command → IsTooLong bytes
 long-command bytes command next has h closed more =
     let size : length (take command bytes) ≡ command = length-take-le command bytes (omega (arith, has.order, has.within)) in
     framed-long closed (bytes ++ more) (take command bytes) (split_of closed (drop next bytes ++ more)) (has.goes_on closed more) (omega arith)
 
 -- too many bytes before a line
-pub long-line : (bytes : List ℕ) (line : ℕ) → StartsLine bytes line → COMMAND_LIMIT < line → IsTooLong bytes
+pub long-line : (bytes : List ℕ) (line : ℕ) → StartsLine bytes line → command_limit < line → IsTooLong bytes
 long-line bytes line starts h closed more =
     let size : length (take line bytes) ≡ line = length-take-le line bytes starts.within in
     framed-before closed (bytes ++ more) (take line bytes) (split_of closed (drop line bytes ++ more)) (starts.goes_on closed more) (omega arith)
@@ -212,7 +212,7 @@ never-stop (a ∷ b ∷ []) (c ∷ more) e = refl
 never-stop (a ∷ b ∷ c ∷ text) more e = refl
 
 -- too many bytes, and the last line begins no end line
-pub long-open : (bytes : List ℕ) (line : ℕ) → IsLast bytes line → may_be_full_stop (drop line bytes) ≡ false → COMMAND_LIMIT < length bytes → IsTooLong bytes
+pub long-open : (bytes : List ℕ) (line : ℕ) → IsLast bytes line → may_be_full_stop (drop line bytes) ≡ false → command_limit < length bytes → IsTooLong bytes
 long-open bytes line last never h closed more =
     let s = split-never closed (drop line bytes) more last.free (λ m. never-stop (drop line bytes) m never) in
     let whole : split_of closed (bytes ++ more) ≡ before bytes s.0 =
@@ -234,7 +234,7 @@ stop-free (a ∷ b ∷ []) e = (grind (arith, nat_tests), (grind (arith, nat_tes
 stop-free (a ∷ b ∷ c ∷ rest) e = cc
 
 -- bytes whose last line may become an end line aren't too long
-pub short-stop : (bytes : List ℕ) (line : ℕ) → IsLast bytes line → may_be_full_stop (drop line bytes) ≡ true → line ≤ COMMAND_LIMIT → ¬ (IsTooLong bytes)
+pub short-stop : (bytes : List ℕ) (line : ℕ) → IsLast bytes line → may_be_full_stop (drop line bytes) ≡ true → line ≤ command_limit → ¬ (IsTooLong bytes)
 short-stop bytes line last may h long =
     let (more, stop, whole, is) = stop-end (drop line bytes) may in
     let size : length (take line bytes) ≡ line = length-take-le line bytes last.starts.within in
@@ -252,7 +252,7 @@ stop-may (a ∷ b ∷ []) e = e
 stop-may (a ∷ b ∷ c ∷ text) e = cc
 
 -- no more bytes than a command may have aren't too long
-pub short-bytes : (bytes : List ℕ) (line : ℕ) → IsLast bytes line → length bytes ≤ COMMAND_LIMIT → ¬ (IsTooLong bytes)
+pub short-bytes : (bytes : List ℕ) (line : ℕ) → IsLast bytes line → length bytes ≤ command_limit → ¬ (IsTooLong bytes)
 short-bytes bytes line last h long =
     let all : framed true bytes ≡ at_once TooLong = subst (λ b. framed true b ≡ at_once TooLong) (append-nil bytes) (long true []) in
     let cases : (b : Bool) → is_full_stop (drop line bytes) ≡ b → ⊥ = λ b. elim b as (λ b. is_full_stop (drop line bytes) ≡ b → ⊥) [

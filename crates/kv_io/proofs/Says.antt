@@ -8,7 +8,7 @@ use Rattle.kv_io.specs.Outside.{Takes}
 use Rattle.kv_io.specs.Framing.{Split, Ending, End, Cut, TooLong, Cutting, at_once, and_first, behind_command, split_of, framed, is_full_stop, ending_of}
 use Rattle.kv_io.specs.Lines.{Ahead, cut_within, cut_left, IsTooLong, IsOpen, IsNext, IsNextWhole, SawEnd, IsNeeded, Says, Tells}
 use Rattle.kv_io.specs.Reading.{HasCommand, IsLast, Gives, ReadsPiece, Grew, Grows, ahead_of, given, answer_of, stop_answer}
-use Rattle.kv_io.specs.declared.reading.TheConstants.{COMMAND_LIMIT, INPUT_LIMIT, READ_SIZE}
+use Rattle.kv_io.specs.Limits.{command_limit, input_limit, read_size}
 use Rattle.kv_io.specs.declared.reading.Reading.{Reading}
 use Rattle.kv_io.specs.declared.reading.Stop.{Stop}
 use Rattle.kv_io.specs.declared.reading.Stop.TheVariants as S
@@ -44,13 +44,13 @@ pub tells-long : (old : Ahead) → IsTooLong old.bytes → (left : Option (List 
 tells-long old long left = tells-held old N.TooLong old (cut_left-long old.bytes old.read old.ended long) tt refl left
 
 -- a whole command at the front
-cut_left-command : (bytes next command : List ℕ) (read : ℕ) (ended : Bool) → ((closed : Bool) (more : List ℕ) → split_of closed (bytes ++ more) ≡ behind_command command (split_of closed (next ++ more))) → length command ≤ COMMAND_LIMIT → (rest : List ℕ) → cut_left (record { bytes = bytes; read = read; ended = ended }) rest ≡ and_first command (cut_left (record { bytes = next; read = read; ended = ended }) rest)
+cut_left-command : (bytes next command : List ℕ) (read : ℕ) (ended : Bool) → ((closed : Bool) (more : List ℕ) → split_of closed (bytes ++ more) ≡ behind_command command (split_of closed (next ++ more))) → length command ≤ command_limit → (rest : List ℕ) → cut_left (record { bytes = bytes; read = read; ended = ended }) rest ≡ and_first command (cut_left (record { bytes = next; read = read; ended = ended }) rest)
 cut_left-command bytes next command read true e h rest =
     let at_end : split_of true bytes ≡ behind_command command (split_of true next) = simp append-nil at (e true []) in
     framed-command true bytes command next at_end h
 cut_left-command bytes next command read false e h rest = cut_within-command read bytes command next rest e h
 
-tells-command : (old : Ahead) (command next : ℕ) → HasCommand old.bytes command next → command ≤ COMMAND_LIMIT → (left : Option (List ℕ)) → Tells old left (N.Command (take command old.bytes)) (record old { bytes = drop next old.bytes }) left
+tells-command : (old : Ahead) (command next : ℕ) → HasCommand old.bytes command next → command ≤ command_limit → (left : Option (List ℕ)) → Tells old left (N.Command (take command old.bytes)) (record old { bytes = drop next old.bytes }) left
 tells-command old command next has h left =
     let size : length (take command old.bytes) ≡ command = length-take-le command old.bytes (omega (arith, has.order, has.within)) in
     tells-held old (N.Command (take command old.bytes)) (record old { bytes = drop next old.bytes })
@@ -84,7 +84,7 @@ gives-whole old command next (Err S.NoMemory) new has g left = told-same old new
 cut_left-closed : (old : Ahead) → old.ended ≡ true → (rest : List ℕ) → cut_left old rest ≡ framed true old.bytes
 cut_left-closed old e rest = rw e refl
 
-tells-stop : (old : Ahead) (line : ℕ) → IsLast old.bytes line → old.ended ≡ true → is_full_stop (drop line old.bytes) ≡ true → line ≤ COMMAND_LIMIT → (left : Option (List ℕ)) → Tells old left (N.Command (take line old.bytes)) (record old { bytes = drop (length old.bytes) old.bytes }) left
+tells-stop : (old : Ahead) (line : ℕ) → IsLast old.bytes line → old.ended ≡ true → is_full_stop (drop line old.bytes) ≡ true → line ≤ command_limit → (left : Option (List ℕ)) → Tells old left (N.Command (take line old.bytes)) (record old { bytes = drop (length old.bytes) old.bytes }) left
 tells-stop old line last e stop h left =
     let size : length (take line old.bytes) ≡ line = length-take-le line old.bytes last.starts.within in
     let all : split_of true old.bytes ≡ behind_command (take line old.bytes) (split_of true (drop (length old.bytes) old.bytes)) =
@@ -138,7 +138,7 @@ tells-ending old bytes line ending last e stop same is left =
     tells-held old (ending_answer ending) old (λ rest. is-ending (cut_left old rest) (cut_left old rest) ending (cut_left-closed old e rest ∙ all))
     (ending-whole old.bytes ending old) refl left
 
-needed-read : (bytes piece : List ℕ) → IsOpen bytes → length piece ≤ READ_SIZE → IsNeeded bytes piece
+needed-read : (bytes piece : List ℕ) → IsOpen bytes → length piece ≤ read_size → IsNeeded bytes piece
 needed-read bytes piece must h = inr ([], piece, refl, h, subst IsOpen (sym (append-nil bytes)) must)
 
 needed-more : (bytes p q : List ℕ) → IsNeeded bytes p → IsNeeded (bytes ++ p) q → IsNeeded bytes (p ++ q)
@@ -151,7 +151,7 @@ both-nil [] rest e = (refl, sym e)
 both-nil (x ∷ piece) rest e = cc
 
 -- a piece was read
-pub grows-piece : (old : Ahead) (piece bytes : List ℕ) (read : ℕ) (left left' : Option (List ℕ)) → IsOpen old.bytes → length piece ≤ READ_SIZE → old.ended ≡ false → old.read + length piece ≤ INPUT_LIMIT → bytes ≡ old.bytes ++ piece → read ≡ old.read + length piece → Takes left piece left' → Grows old left (record { bytes = bytes; read = read; ended = old.ended }) left'
+pub grows-piece : (old : Ahead) (piece bytes : List ℕ) (read : ℕ) (left left' : Option (List ℕ)) → IsOpen old.bytes → length piece ≤ read_size → old.ended ≡ false → old.read + length piece ≤ input_limit → bytes ≡ old.bytes ++ piece → read ≡ old.read + length piece → Takes left piece left' → Grows old left (record { bytes = bytes; read = read; ended = old.ended }) left'
 grows-piece old piece bytes read None left' must size off h b r t = record { told = tt }
 grows-piece old piece bytes read (Some input) left' must size off h b r t =
     let (rest, new, whole) = t.told in
@@ -176,7 +176,7 @@ no-piece [] e = refl
 no-piece (x ∷ piece) e = absurd (omega arith)
 
 -- the end of the input was read
-pub grows-end : (old : Ahead) (piece bytes : List ℕ) (left left' : Option (List ℕ)) → old.ended ≡ false → old.read ≤ INPUT_LIMIT → length piece ≡ 0 → bytes ≡ old.bytes ++ piece → IfSome left (λ input. input ≡ []) → Takes left piece left' → Grows old left (record { bytes = bytes; read = old.read; ended = true }) left'
+pub grows-end : (old : Ahead) (piece bytes : List ℕ) (left left' : Option (List ℕ)) → old.ended ≡ false → old.read ≤ input_limit → length piece ≡ 0 → bytes ≡ old.bytes ++ piece → IfSome left (λ input. input ≡ []) → Takes left piece left' → Grows old left (record { bytes = bytes; read = old.read; ended = true }) left'
 grows-end old piece bytes None left' off h n b none t = record { told = tt }
 grows-end old piece bytes (Some input) left' off h n b none t =
     let (rest, new, whole) = t.told in
@@ -205,7 +205,7 @@ tells-fault old line left left' last same =
     subst (Tells old left N.ReadFault old) (sym same) (tells-held old N.ReadFault old (λ rest. tt) (none-whole old.bytes line last) refl left)
 
 -- a piece was taken, but there is no room for it
-tells-no_room : (old : Ahead) (piece : List ℕ) (left left' : Option (List ℕ)) → IsOpen old.bytes → length piece ≤ READ_SIZE → old.ended ≡ false → Takes left piece left' → Tells old left N.NoMemory old left'
+tells-no_room : (old : Ahead) (piece : List ℕ) (left left' : Option (List ℕ)) → IsOpen old.bytes → length piece ≤ read_size → old.ended ≡ false → Takes left piece left' → Tells old left N.NoMemory old left'
 tells-no_room old piece None left' must size off t = record { told = tt }
 tells-no_room old piece (Some input) left' must size off t =
     let (rest, new, whole) = t.told in
@@ -225,7 +225,7 @@ tells-no_room old piece (Some input) left' must size off t =
     }
 
 -- a byte was taken behind the limit of an input
-tells-past : (old : Ahead) (line : ℕ) (piece : List ℕ) (left left' : Option (List ℕ)) → IsLast old.bytes line → IsOpen old.bytes → length piece ≤ READ_SIZE → old.ended ≡ false → old.read ≡ INPUT_LIMIT → 0 < length piece → Takes left piece left' → Tells old left N.TooLong old left'
+tells-past : (old : Ahead) (line : ℕ) (piece : List ℕ) (left left' : Option (List ℕ)) → IsLast old.bytes line → IsOpen old.bytes → length piece ≤ read_size → old.ended ≡ false → old.read ≡ input_limit → 0 < length piece → Takes left piece left' → Tells old left N.TooLong old left'
 tells-past old line piece None left' last must size off limit some t = record { told = tt }
 tells-past old line piece (Some input) left' last must size off limit some t =
     let (rest, new, whole) = t.told in
@@ -248,12 +248,12 @@ told-bytes : (old : Ahead) (bytes : List ℕ) (left : Option (List ℕ)) (answer
 told-bytes old bytes left answer left' same told = subst (λ b. Tells old left answer (record old { bytes = b }) left') (sym same) told
 
 -- a read that stops a reader
-pub tells-read : (old : Ahead) (line : ℕ) (bytes : List ℕ) (left : Option (List ℕ)) (stop : Stop) (left' : Option (List ℕ)) → IsLast old.bytes line → IsOpen old.bytes → old.ended ≡ false → old.read ≤ INPUT_LIMIT → ReadsPiece old.bytes (INPUT_LIMIT - old.read) left (Err stop) bytes left' → Tells old left (stop_answer stop) (record old { bytes = bytes }) left'
+pub tells-read : (old : Ahead) (line : ℕ) (bytes : List ℕ) (left : Option (List ℕ)) (stop : Stop) (left' : Option (List ℕ)) → IsLast old.bytes line → IsOpen old.bytes → old.ended ≡ false → old.read ≤ input_limit → ReadsPiece old.bytes (input_limit - old.read) left (Err stop) bytes left' → Tells old left (stop_answer stop) (record old { bytes = bytes }) left'
 tells-read old line bytes left S.End left' last must off h r = absurd r
 tells-read old line bytes left S.Cut left' last must off h r = absurd r
 tells-read old line bytes left S.TooLong left' last must off h r =
     let (room, same, (piece, some, size, t)) = r in
-    let limit : old.read ≡ INPUT_LIMIT = omega arith in
+    let limit : old.read ≡ input_limit = omega arith in
     told-bytes old bytes left N.TooLong left' same (tells-past old line piece left left' last must size off limit some t)
 tells-read old line bytes left S.ReadFault left' last must off h r =
     told-bytes old bytes left N.ReadFault left' r.0 (tells-fault old line left left' last r.1)

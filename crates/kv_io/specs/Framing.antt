@@ -1,7 +1,7 @@
 -- How the bytes of an input are cut into commands, and how an input ends.
 use Rattle.std.specs.Prelude.{ℕ, Bool, true, false, ◌&&◌, ◌||◌, ◌==◌, nat_le, if◌then◌else◌, List, [], ◌∷◌, ◌++◌, take, length}
 use Rattle.std.specs.List.{list_all}
-use Rattle.kv_io.specs.declared.reading.TheConstants.{COMMAND_LIMIT, INPUT_LIMIT}
+use Rattle.kv_io.specs.Limits.{command_limit, input_limit}
 
 -- the bytes of a line before its line feed, and whether it has one
 pub record Line : Type 0 where
@@ -86,7 +86,7 @@ and_first command cutting = record { commands = command ∷ cutting.commands; en
 abbrev pub limited : List (List ℕ) → Ending → Cutting
 limited [] ending = at_once ending
 limited (command ∷ commands) ending =
-    if nat_le (length command) COMMAND_LIMIT then and_first command (limited commands ending) else at_once TooLong
+    if nat_le (length command) command_limit then and_first command (limited commands ending) else at_once TooLong
 
 -- a space, a tab, a carriage return or a line feed
 abbrev pub is_blank : ℕ → Bool
@@ -95,7 +95,7 @@ is_blank byte = byte == 32 || byte == 9 || byte == 13 || byte == 10
 -- how an input ends that has these bytes behind its last end line
 abbrev pub ending_of : List ℕ → Ending
 ending_of rest =
-    if nat_le (length rest) COMMAND_LIMIT then (if list_all is_blank rest then End else Cut) else TooLong
+    if nat_le (length rest) command_limit then (if list_all is_blank rest then End else Cut) else TooLong
 
 -- the cutting of a whole input (closed), or of the first bytes of one that passes its limit
 unfoldable pub framed : Bool → List ℕ → Cutting
@@ -106,7 +106,7 @@ framed closed bytes =
 -- the cutting of an input
 unfoldable pub cut_of : List ℕ → Cutting
 cut_of input =
-    if nat_le (length input) INPUT_LIMIT then framed true input else framed false (take INPUT_LIMIT input)
+    if nat_le (length input) input_limit then framed true input else framed false (take input_limit input)
 
 -- the commands whose end line stands in these bytes, with its line feed
 abbrev pub whole_commands : List ℕ → List (List ℕ)

@@ -1,4 +1,5 @@
 pub mod Framing
+pub mod Limits
 pub mod Lines
 pub mod Memory
 pub mod Outside

@@ -1,7 +1,7 @@
 -- What a reader of commands holds, and what its answers say of the input.
 use Rattle.std.specs.Prelude.{◌≡◌, ◌⊎◌, ◌≤◌, ◌+◌, ◌-◌, ℕ, Bool, true, false, nat_le, if◌then◌else◌, List, [], ◌∷◌, ◌++◌, take, length, Option, Some, None, IfSome}
 use Rattle.kv_io.specs.Framing.{Cutting, End, Cut, TooLong, at_once, and_first, framed, whole_commands}
-use Rattle.kv_io.specs.declared.reading.TheConstants.{INPUT_LIMIT, READ_SIZE}
+use Rattle.kv_io.specs.Limits.{input_limit, read_size}
 use Rattle.kv_io.specs.declared.lines.Next.{Next}
 use Rattle.kv_io.specs.declared.lines.Next.TheVariants as N
 
@@ -18,9 +18,9 @@ nothing_ahead = record { bytes = []; read = 0; ended = false }
 -- what is left to be given of an input of which some bytes were read, these are ahead, and the rest is still to come
 unfoldable pub cut_within : ℕ → List ℕ → List ℕ → Cutting
 cut_within read bytes rest =
-    if nat_le (read + length rest) INPUT_LIMIT
+    if nat_le (read + length rest) input_limit
     then framed true (bytes ++ rest)
-    else framed false (bytes ++ take (INPUT_LIMIT - read) rest)
+    else framed false (bytes ++ take (input_limit - read) rest)
 
 abbrev pub cut_left : Ahead → List ℕ → Cutting
 cut_left ahead rest = if ahead.ended then framed true ahead.bytes else cut_within ahead.read ahead.bytes rest
@@ -62,7 +62,7 @@ SawEnd ahead rest = ahead.ended ≡ true → rest ≡ []
 abbrev pub IsNeeded : List ℕ → List ℕ → Type 0
 IsNeeded bytes piece =
     (piece ≡ [])
-    ⊎ ((front : List ℕ) × (last : List ℕ) × (piece ≡ front ++ last) × (length last ≤ READ_SIZE) × IsOpen (bytes ++ front))
+    ⊎ ((front : List ℕ) × (last : List ℕ) × (piece ≡ front ++ last) × (length last ≤ read_size) × IsOpen (bytes ++ front))
 
 -- what an answer says of a source that had a piece and then the rest to come, where the call took the piece
 pub record Says (old : Ahead) (piece rest : List ℕ) (answer : Next) (new : Ahead) : Type 0 where
@@ -78,7 +78,7 @@ pub record Tells (old : Ahead) (left : Option (List ℕ)) (answer : Next) (new :
 
 -- how many bytes may still be given: each command takes some of them
 abbrev pub room_of : Ahead → ℕ
-room_of ahead = length ahead.bytes + (INPUT_LIMIT - ahead.read)
+room_of ahead = length ahead.bytes + (input_limit - ahead.read)
 
 -- what was read ahead, and the answer that is given from now on, once one came that is no command
 pub record LinesState : Type 0 where

@@ -2,7 +2,7 @@
 use Rattle.std.specs.Prelude.{◌≡◌, ◌⊎◌, ◌<◌, ◌≤◌, ◌-◌, ◌^◌, ℕ, List, ◌++◌, take, length, Option, Some, Result, Ok, Err, IfOk, IfSome, IsSomeAnd}
 use Rattle.kv_io.specs.declared.outside.LoadError.{LoadError}
 use Rattle.kv_io.specs.declared.outside.LoadError.TheVariants.{Failed, TooLong, NoMemory}
-use Rattle.kv_io.specs.declared.outside.TheConstants.{FILE_LIMIT}
+use Rattle.kv_io.specs.Limits.{file_limit}
 
 -- a count of faults rose in a call, or stands at the greatest number of 64 bits
 abbrev pub Rose : ℕ → ℕ → Type 0
@@ -24,7 +24,7 @@ pub record AddsFront (old : Option (List ℕ)) (piece : List ℕ) (new : Option 
 abbrev pub Loads : Option (List ℕ) → Result (Option (List ℕ)) LoadError → Type 0
 Loads file (Ok loaded) = file ≡ loaded
 Loads file (Err Failed) = Unit {0}
-Loads file (Err TooLong) = IsSomeAnd file (λ bytes. FILE_LIMIT < length bytes)
+Loads file (Err TooLong) = IsSomeAnd file (λ bytes. file_limit < length bytes)
 Loads file (Err NoMemory) = Unit {0}
 
 -- a loaded file has at most so many bytes

@@ -3,7 +3,7 @@ use Rattle.std.specs.Prelude.{◌≡◌, ◌≤◌, ◌<◌, ◌+◌, ◌-◌, �
 use Rattle.kv_io.specs.Outside.{Takes}
 use Rattle.kv_io.specs.Framing.{before, behind_command, split_of}
 use Rattle.kv_io.specs.Lines.{Ahead, cut_left, IsNeeded, SawEnd, Tells}
-use Rattle.kv_io.specs.declared.reading.TheConstants.{COMMAND_LIMIT, INPUT_LIMIT, READ_SIZE}
+use Rattle.kv_io.specs.Limits.{command_limit, input_limit, read_size}
 use Rattle.kv_io.specs.declared.reading.Reading.{Reading}
 use Rattle.kv_io.specs.declared.reading.Stop.{Stop}
 use Rattle.kv_io.specs.declared.reading.Stop.TheVariants as S
@@ -67,7 +67,7 @@ ahead_of reading = record { bytes = reading.held; read = reading.read; ended = r
 -- what is true of a reader between its steps
 pub record IsReading (reading : Reading) : Type 0 where
   pub scanned : IsScanned reading.held reading.line reading.scanned
-  pub limit : reading.read ≤ INPUT_LIMIT
+  pub limit : reading.read ≤ input_limit
 
 -- the answer for a reason to stop
 abbrev pub stop_answer : Stop → Next
@@ -88,25 +88,25 @@ given reading next = record reading { held = drop next reading.held; line = 0; s
 
 -- what comes of giving so many bytes as a command, if they aren't too many, and going on at the next place
 abbrev pub Gives : Reading → (command next : ℕ) → Result (List ℕ) Stop → Reading → Type 0
-Gives old command next (Ok text) new = (command ≤ COMMAND_LIMIT) × (text ≡ take command old.held) × (new ≡ given old next)
+Gives old command next (Ok text) new = (command ≤ command_limit) × (text ≡ take command old.held) × (new ≡ given old next)
 Gives old command next (Err S.End) new = ⊥
 Gives old command next (Err S.Cut) new = ⊥
-Gives old command next (Err S.TooLong) new = (COMMAND_LIMIT < command) × (new ≡ old)
+Gives old command next (Err S.TooLong) new = (command_limit < command) × (new ≡ old)
 Gives old command next (Err S.ReadFault) new = ⊥
 Gives old command next (Err S.NoMemory) new = new ≡ old
 
 -- what one read adds to bytes that are held, where there is room for so many
 abbrev pub ReadsPiece : List ℕ → (room : ℕ) → Option (List ℕ) → Result ℕ Stop → List ℕ → Option (List ℕ) → Type 0
 ReadsPiece old room left (Ok count) new left' =
-    (count ≤ room) × (count ≤ READ_SIZE) × (count ≡ 0 → IfSome left (λ input. input ≡ []))
+    (count ≤ room) × (count ≤ read_size) × (count ≡ 0 → IfSome left (λ input. input ≡ []))
     × ((piece : List ℕ) × (length piece ≡ count) × (new ≡ old ++ piece) × Takes left piece left')
 ReadsPiece old room left (Err S.End) new left' = ⊥
 ReadsPiece old room left (Err S.Cut) new left' = ⊥
 ReadsPiece old room left (Err S.TooLong) new left' =
-    (room ≡ 0) × (new ≡ old) × ((piece : List ℕ) × (0 < length piece) × (length piece ≤ READ_SIZE) × Takes left piece left')
+    (room ≡ 0) × (new ≡ old) × ((piece : List ℕ) × (0 < length piece) × (length piece ≤ read_size) × Takes left piece left')
 ReadsPiece old room left (Err S.ReadFault) new left' = (new ≡ old) × (left' ≡ left)
 ReadsPiece old room left (Err S.NoMemory) new left' =
-    (new ≡ old) × ((piece : List ℕ) × (length piece ≤ READ_SIZE) × Takes left piece left')
+    (new ≡ old) × ((piece : List ℕ) × (length piece ≤ read_size) × Takes left piece left')
 
 -- a piece was read: nothing was given meanwhile
 pub record Grew (old : Ahead) (piece rest : List ℕ) (new : Ahead) : Type 0 where
@@ -123,7 +123,7 @@ pub record Grows (old : Ahead) (left : Option (List ℕ)) (new : Ahead) (left' :
 
 -- how often may still be read: each read gives a byte, or the end of the input
 abbrev pub turns_of : Ahead → ℕ
-turns_of ahead = (INPUT_LIMIT - ahead.read) + (if ahead.ended then 0 else 1)
+turns_of ahead = (input_limit - ahead.read) + (if ahead.ended then 0 else 1)
 
 -- what one read does, where it was needed
 abbrev pub ReadsOn : Ahead → Option (List ℕ) → Result (Unit {0}) Stop → Ahead → Option (List ℕ) → Type 0

@@ -3,7 +3,7 @@
 ghost use Rattle.std.specs.Prelude.{◌≡◌, IfOk};
 ghost use Rattle.kv_io.specs.Memory.{no_calls, is_due, after_call};
 
-use kv_syn::NoMemory;
+use kv_names::NoMemory;
 use std::alloc::Global;
 use std::marker::Model;
 

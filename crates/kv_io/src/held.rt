@@ -2,7 +2,7 @@
 
 ghost use Rattle.std.specs.Prelude.{◌≡◌, ◌≤◌, ◌++◌, [], length, drop, OnOk, OnErr};
 
-use kv_syn::NoMemory;
+use kv_names::NoMemory;
 use std::alloc::Global;
 use std::marker::Model;
 

@@ -8,7 +8,7 @@ ghost use Rattle.kv_io.specs.Reading.{stop_answer};
 
 use crate::outside::Source;
 use crate::reading::{Reading, Stop};
-use kv_syn::Bytes;
+use kv_names::Bytes;
 use std::alloc::Global;
 use std::marker::Model;
 

@@ -5,7 +5,7 @@ ghost use Rattle.kv_io.specs.Memory.{no_calls, is_due, is_full, after_call};
 
 use crate::calls::Calls;
 use crate::outside::{Failed, Sink};
-use kv_syn::NoMemory;
+use kv_names::NoMemory;
 use std::alloc::Global;
 use std::marker::Model;
 

@@ -1,12 +1,13 @@
 // A store in memory.
 
 ghost use Rattle.std.specs.Prelude.{◌≡◌, ◌≢◌, ◌≤◌, ◌↔◌, ◌||◌, length, Some, None, true, option_map, nat_lt, is_err, IsTrue, IsSome, IfOk, IfSome, IfNone, OnOk, OnErr, IsErrOf};
+ghost use Rattle.kv_io.specs.Limits.{file_limit};
 ghost use Rattle.kv_io.specs.Memory.{no_calls, is_due, after_call};
 ghost use Rattle.kv_io.specs.Outside.{Loads, LoadsAtMost};
 
 use crate::calls::Calls;
 use crate::outside::{FILE_LIMIT, Failed, LoadError, Store};
-use kv_syn::{Bytes, NoMemory};
+use kv_names::{Bytes, NoMemory};
 use std::alloc::Global;
 use std::marker::Model;
 
@@ -87,7 +88,7 @@ impl MemStore {
     // Loads the file, whether it is told or not.
     fn copy(&self, alloc: Global) -> Result<Option<Bytes>, LoadError>
         ensures loads { IfSome self.now.held (λ file. Loads file result) }
-        ensures limit { LoadsAtMost FILE_LIMIT result }
+        ensures limit { LoadsAtMost file_limit result }
         ensures never { result ≢ Err LoadError.Failed }
     {
         if !self.is_there {
@@ -123,7 +124,7 @@ impl Store for MemStore {
         ensures fails { IsErrOf result LoadError.Failed ↔ IsTrue (is_due self.old.calls) }
         ensures state { self.new ≡ record self.old { calls = after_call self.old.calls (is_due self.old.calls) } }
         ensures loads { IfSome self.old.held (λ file. Loads file result) }
-        ensures limit { LoadsAtMost FILE_LIMIT result }
+        ensures limit { LoadsAtMost file_limit result }
     {
         let failed = self.calls.is_due();
         self.calls.count(failed);

@@ -1,9 +1,10 @@
 // What the program knows of the objects outside it.
 
 ghost use Rattle.std.specs.Prelude.{◌≡◌, ◌≢◌, ◌≤◌, ◌<◌, List, ℕ, Bool, Option, [], length, take, IsTrue, IsSome, IfOk, IfSome, OnOk, OnErr, IsErrOf};
+ghost use Rattle.kv_io.specs.Limits.{file_limit};
 ghost use Rattle.kv_io.specs.Outside.{Takes, Adds, AddsFront, Rose, Loads, LoadsAtMost};
 
-use kv_syn::{Bytes, NoMemory};
+use kv_names::{Bytes, NoMemory};
 use std::alloc::Global;
 use thiserror::Error;
 
@@ -106,7 +107,7 @@ pub trait Store {
     fn load(&mut self, alloc: Global) -> Result<Option<Bytes>, LoadError>
         requires { chosen self.old ≢ None }
         ensures loads { IfSome (held self.old) (λ file. Loads file result) }
-        ensures limit { LoadsAtMost FILE_LIMIT result }
+        ensures limit { LoadsAtMost file_limit result }
         ensures chosen { chosen self.new ≡ chosen self.old }
         ensures held { held self.new ≡ held self.old }
         ensures tells { tells self.new ≡ tells self.old }

@@ -8,7 +8,7 @@ ghost use Rattle.kv_io.specs.Reading.{IsReading, IsLast, Gives, ReadsPiece, Read
 use crate::held::Held;
 use crate::outside::Source;
 use crate::scan::{Found, find_command, is_blank_text, is_full_stop_line, is_too_long};
-use kv_syn::{Bytes, NoMemory};
+use kv_names::{Bytes, NoMemory};
 use std::alloc::Global;
 
 /// The greatest length of a command, in bytes.

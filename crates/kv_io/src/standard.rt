@@ -2,10 +2,11 @@
 
 ghost use Rattle.std.specs.Prelude.{◌≡◌, ◌≤◌, ◌<◌, length, None, false, IfOk, IfSome, OnOk, IsErrOf};
 ghost use Rattle.std.specs.Io.KnownBytes.{Appends};
+ghost use Rattle.kv_io.specs.Limits.{file_limit};
 ghost use Rattle.kv_io.specs.Outside.{LoadsAtMost};
 
 use crate::outside::{FILE_LIMIT, Failed, LoadError, Sink, Source, Store};
-use kv_syn::{Bytes, NoMemory};
+use kv_names::{Bytes, NoMemory};
 use std::alloc::Global;
 use std::fs;
 use std::io::{self, Read, Write};
@@ -138,10 +139,10 @@ impl<R: Files + Drop> FileStore<R> {
 
 // Reads to the end, or past the limit, a chunk at a time.
 fn read_whole<F: Read>(alloc: Global, file: &mut F) -> Result<Bytes, LoadError>
-    ensures limit { IfOk result (λ bytes. length bytes ≤ FILE_LIMIT) }
+    ensures limit { IfOk result (λ bytes. length bytes ≤ file_limit) }
     ensures all { IfOk result (λ bytes. IfSome (F.remaining file.old) (λ all. bytes ≡ all)) }
     ensures too_long { IsErrOf result LoadError.TooLong
-        → IfSome (F.remaining file.old) (λ all. FILE_LIMIT < length all) }
+        → IfSome (F.remaining file.old) (λ all. file_limit < length all) }
 {
     let mut bytes = Bytes::new(alloc);
     let mut chunk = [0u8; 8192];
@@ -157,7 +158,7 @@ fn read_whole<F: Read>(alloc: Global, file: &mut F) -> Result<Bytes, LoadError>
 
 // Opens and reads the file of this name; None where there is none.
 fn load_file<R: Files>(alloc: Global, files: &R, name: &str) -> Result<Option<Bytes>, LoadError>
-    ensures { LoadsAtMost FILE_LIMIT result }
+    ensures { LoadsAtMost file_limit result }
 {
     match fs::open(files, name) {
         Ok(mut file) => Ok(Some(read_whole(alloc, &mut file)?)),

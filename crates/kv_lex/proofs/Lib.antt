@@ -1,5 +1,10 @@
+pub mod Exact
 pub mod Fronts
+pub mod MarkRows
+pub mod Gaps
 pub mod Parts
 pub mod Reached
+pub mod Signs
 pub mod Standing
 pub mod Texts
+pub mod Whole

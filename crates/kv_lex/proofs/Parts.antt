@@ -8,7 +8,7 @@ use Rattle.std.specs.Str.Parse.{digits_value}
 use Rattle.std.proofs.lemmas.List.{take-append-drop}
 use Rattle.unicode_ident.specs.Ident.{is_xid_start, is_xid_continue}
 use Rattle.kv_table.specs.Names.{row_of}
-use Rattle.kv_table.specs.Tables.{keyword_rows}
+use Rattle.kv_table.specs.Keywords.{keyword_rows}
 use Rattle.kv_table.proofs.Lookup.{found_row}
 use Rattle.kv_lex.specs.declared.token.TokenKind.{TokenKind}
 use Rattle.kv_lex.specs.declared.token.TokenKind.TheVariants.{Word, Ident, Number, Mark}
@@ -46,7 +46,7 @@ pub record Reads (cs : List ℕ) (kind : TokenKind) (rest : List ℕ) : Type 0 w
   pub some : 1 ≤ length text
   pub spells : Spells (encode_utf8_all text) kind
 
-with_rest_some : (rest : List ℕ) (kind : Option TokenKind) (t : TokenKind × List ℕ) → with_rest rest kind ≡ Some t → (kind ≡ Some t.0) × (t.1 ≡ rest)
+pub with_rest_some : (rest : List ℕ) (kind : Option TokenKind) (t : TokenKind × List ℕ) → with_rest rest kind ≡ Some t → (kind ≡ Some t.0) × (t.1 ≡ rest)
 with_rest_some rest None t e = absurd cc
 with_rest_some rest (Some k) t e = let p : (k, rest) ≡ t = cc in (ap (λ u. Some u.0) p, ap (λ u. u.1) (sym p))
 

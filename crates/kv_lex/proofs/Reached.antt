@@ -30,11 +30,11 @@ pub record Reached (size : ℕ) (whole : List ℕ) (tokens : List Token) (cs : L
   pub enough : length cs ≤ turns
   pub reads : lexed_from (suc (length whole)) size whole ≡ then_lexed tokens (from_here turns size cs)
 
-then_none : (more : Lexed) → then_lexed [] more ≡ more
+pub then_none : (more : Lexed) → then_lexed [] more ≡ more
 then_none (Ok more) = refl
 then_none (Err at) = refl
 
-then_more : (ts us : List Token) (more : Lexed) → then_lexed ts (then_lexed us more) ≡ then_lexed (ts ++ us) more
+pub then_more : (ts us : List Token) (more : Lexed) → then_lexed ts (then_lexed us more) ≡ then_lexed (ts ++ us) more
 then_more ts us (Ok more) = ap Ok (sym (append_assoc ts us more))
 then_more ts us (Err at) = refl
 

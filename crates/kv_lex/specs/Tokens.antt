@@ -1,5 +1,5 @@
--- The tokens of a text. A text is read by its characters, and a token tells the bytes at which it begins and ends.
-use Rattle.std.specs.Prelude.{ℕ, zero, suc, ◌-◌, Bool, ◌||◌, if◌then◌else◌, ◌==◌, nat_le, List, [], ◌∷◌, ◌++◌, length, take, drop, Option, Some, None, Result, Ok, Err, ◌≡◌}
+-- The tokens of a text, as the code's parts give them. That this is what the text is (Texts) is a law.
+use Rattle.std.specs.Prelude.{ℕ, zero, suc, Bool, if◌then◌else◌, ◌==◌, nat_le, List, [], ◌∷◌, ◌++◌, length, take, drop, Option, Some, None, Result, Ok, Err, ◌≡◌}
 use Rattle.std.specs.Option.{option_map}
 use Rattle.std.specs.Str.{chars, encode_utf8_all}
 use Rattle.std.specs.Str.Lossy.{utf8_valid_len}
@@ -7,13 +7,14 @@ use Rattle.std.specs.Str.Parse.{digits_value}
 use Rattle.std.specs.Char.{is_ascii_digit}
 use Rattle.unicode_ident.specs.Ident.{is_xid_start, is_xid_continue}
 use Rattle.kv_table.specs.Names.{row_of}
-use Rattle.kv_table.specs.Tables.{keyword_rows}
+use Rattle.kv_table.specs.Keywords.{keyword_rows}
 use Rattle.kv_lex.specs.declared.token.Token.{Token}
 use Rattle.kv_lex.specs.declared.token.TokenKind.{TokenKind}
 use Rattle.kv_lex.specs.declared.token.TokenKind.TheVariants.{Word, Ident, Number, Mark}
 use Rattle.kv_lex.specs.declared.token.LexError.{LexError}
 use Rattle.kv_lex.specs.declared.token.LexError.TheVariants.{Token as Fault, NoMemory}
 use Rattle.kv_lex.specs.Marks.{mark_rows}
+pub use Rattle.kv_lex.specs.Texts.{is_blank, place, Lexed}
 
 -- the longest front whose characters pass, and what follows it
 abbrev pub run : (ℕ → Bool) → List ℕ → List ℕ
@@ -23,10 +24,6 @@ run passes (c ∷ cs) = if passes c then c ∷ run passes cs else []
 abbrev pub past : (ℕ → Bool) → List ℕ → List ℕ
 past passes [] = []
 past passes (c ∷ cs) = if passes c then past passes cs else c ∷ cs
-
--- a space, a tab, a carriage return or a line feed
-abbrev pub is_blank : ℕ → Bool
-is_blank c = c == 32 || c == 9 || c == 13 || c == 10
 
 -- the text without the blanks and comments at its front; a comment goes from a percent sign to the next line feed
 abbrev mutual
@@ -81,18 +78,10 @@ token_at (c ∷ cs) =
     else (if is_ascii_digit c then with_rest (past is_ascii_digit cs) (number (encode_utf8_all (c ∷ run is_ascii_digit cs)))
     else mark (c ∷ cs))
 
--- the tokens, or the byte of the first fault
-abbrev pub Lexed : Type 0
-Lexed = Result (List Token) ℕ
-
 -- tokens, and behind them the others or the fault
 abbrev pub then_lexed : List Token → Lexed → Lexed
 then_lexed tokens (Ok more) = Ok (tokens ++ more)
 then_lexed tokens (Err place) = Err place
-
--- the byte at which the rest of a text of `size` bytes begins
-abbrev pub place : ℕ → List ℕ → ℕ
-place size rest = size - length (encode_utf8_all rest)
 
 -- where no token reads there is a fault, unless nothing is left
 abbrev pub step : (List ℕ → Lexed) → ℕ → List ℕ → Option (TokenKind × List ℕ) → Lexed

@@ -8,7 +8,7 @@ ghost use Rattle.kv_lex.specs.Marks.{mark_rows};
 
 use crate::front::{first, past_count, past_digits, past_name, until};
 use crate::token::TokenKind;
-use kv_syn::{Name, NoMemory};
+use kv_names::{Name, NoMemory};
 use kv_table::{Names, keywords};
 use std::alloc::Global;
 use unicode_ident::is_xid_start;

@@ -8,7 +8,7 @@ ghost use Rattle.kv_lex.specs.Spelling.{StandIn};
 use crate::front::skip;
 use crate::kinds::token;
 use crate::token::{LexError, Token};
-use kv_syn::List;
+use kv_names::List;
 use std::alloc::Global;
 
 /// The longest front of the bytes that is UTF-8.

@@ -1,6 +1,6 @@
 // Tokens, and why a text has none.
 
-use kv_syn::{Name, NoMemory};
+use kv_names::{Name, NoMemory};
 use thiserror::Error;
 
 /// What a token is.

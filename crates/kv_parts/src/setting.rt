@@ -122,14 +122,12 @@ impl Setting {
 
     /// Declares the free variables of a text.
     pub fn put_free(&mut self, text: &str) -> Result<(), Fault> {
-        self.context.free = variables(self.alloc, text)?;
-        Ok(())
+        put(self.alloc, &mut self.context.free, text)
     }
 
     /// Declares the binders around, the innermost last.
     pub fn put_binders(&mut self, text: &str) -> Result<(), Fault> {
-        self.context.bound = variables(self.alloc, text)?;
-        Ok(())
+        put(self.alloc, &mut self.context.bound, text)
     }
 
     /// Declares the assumed procedures of a text, spelled as items.
@@ -182,6 +180,11 @@ fn items_of(unit: &Unit) -> &[Item] {
         Kind::Basic(items) => items.items(),
         _ => &[],
     }
+}
+
+fn put(alloc: Global, list: &mut List<Var>, text: &str) -> Result<(), Fault> {
+    *list = variables(alloc, text)?;
+    Ok(())
 }
 
 /// Variables as the values of a procedure are spelled.

@@ -1,8 +1,8 @@
 // What the calls want of how deep trees are and how far their numbers go.
 
 ghost use Rattle.std.specs.Prelude.{◌≡◌, ◌≤◌, OnOk};
-ghost use Rattle.kv_syn.specs.Bridge.{plain_term, plain_terms, plain_form, plain_prog};
-ghost use Rattle.kv_syn.specs.Variables.{form_binders, prog_binders};
+ghost use Rattle.kv_trees.specs.Bridge.{plain_term, plain_terms, plain_form, plain_prog};
+ghost use Rattle.kv_trees.specs.Variables.{form_binders, prog_binders};
 ghost use Rattle.kv_subst.specs.Sizes.{ref_reach, refs_reach, term_reach, terms_reach, form_reach, prog_reach};
 
 use crate::faults::Fault;

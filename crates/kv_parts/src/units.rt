@@ -58,13 +58,21 @@ pub fn add_answer<L: Ledger>(
     steps: &mut Steps<L>,
 ) -> Result<Bytes, Fault> {
     let other = signature(setting.alloc, items, steps)?;
-    for symbol in other.symbols() {
-        let symbol = symbol.copy(setting.alloc)?;
-        if let Err(error) = setting.flat.sig.add(symbol) {
-            return changed(setting, Err(error));
+    let outcome = added(setting.alloc, &mut setting.flat.sig, other.symbols())?;
+    changed(setting, outcome)
+}
+
+fn added(
+    alloc: Global,
+    sig: &mut Sig,
+    symbols: &[Symbol],
+) -> Result<Result<(), SigError>, NoMemory> {
+    for symbol in symbols {
+        if let Err(error) = sig.add(symbol.copy(alloc)?) {
+            return Ok(Err(error));
         }
     }
-    symbols_answer(setting)
+    Ok(Ok(()))
 }
 
 /// `NAME`: the symbol of that name.

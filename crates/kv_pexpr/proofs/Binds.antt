@@ -4,8 +4,8 @@ use Rattle.std.specs.Prelude.{Bool, true, false, if◌then◌else◌, cond, ◌=
 use Rattle.std.proofs.lemmas.Bool.Decides.{eqb_tells}
 use Rattle.kv_lex.specs.declared.token.TokenKind.{TokenKind}
 use Rattle.kv_lex.specs.declared.token.TokenKind.TheVariants.{Word, Ident, Number, Mark}
-use Rattle.kv_lex.specs.declared.mark.TheConstants.{OPEN, COMMA, EQUAL, ARROW, DOUBLE_ARROW}
-use Rattle.kv_table.specs.declared.keyword.TheConstants.{AND, OR}
+use Rattle.kv_lex.specs.Marks.{OPEN, COMMA, EQUAL, ARROW, DOUBLE_ARROW}
+use Rattle.kv_table.specs.Keywords.{AND, OR}
 use Rattle.kv_pexpr.specs.Grammar.{Stops, TermStops}
 use Rattle.kv_pexpr.specs.Parse.{eat_mark, eat_word}
 

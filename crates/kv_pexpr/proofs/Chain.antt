@@ -3,8 +3,8 @@ use Rattle.std.proofs.Common.{◌≡◌, ℕ, suc, ◌+◌, ◌-◌, ◌<◌, �
 use Rattle.std.specs.Prelude.{true, false, Some, None, nat_le}
 use Rattle.std.proofs.lemmas.Bool.Decides.{leb_tells}
 use Rattle.kv_lex.specs.declared.token.TokenKind.{TokenKind}
-use Rattle.kv_syn.specs.RawTrees.{RawForm}
-use Rattle.kv_syn.specs.RawCount.{raw_form_depth}
+use Rattle.kv_raw.specs.RawTrees.{RawForm}
+use Rattle.kv_raw.specs.RawCount.{raw_form_depth}
 use Rattle.kv_pexpr.specs.Parse.{chain, eat_word, or_stay, behind, Read}
 
 module _ (op : RawForm → RawForm → RawForm) (w : ℕ) (item : List TokenKind → Read RawForm) (n at : ℕ) (p : RawForm) (us : List TokenKind) where

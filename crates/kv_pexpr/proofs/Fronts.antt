@@ -3,9 +3,9 @@ use Rattle.std.proofs.Common.{ℕ, ◌≡◌, ◌<◌, List, [], ◌∷◌, ◌+
 use Rattle.std.proofs.lemmas.List.{length-append}
 use Rattle.kv_lex.specs.declared.token.TokenKind.{TokenKind}
 use Rattle.kv_lex.specs.declared.token.TokenKind.TheVariants.{Word, Ident, Mark}
-use Rattle.kv_lex.specs.declared.mark.TheConstants.{OPEN, CLOSE, COMMA, COLON, DOT, EQUAL, ARROW, DOUBLE_ARROW}
-use Rattle.kv_table.specs.declared.keyword.TheConstants.{TRUE, FALSE, NOT, AND, OR, ALL, EX}
-use Rattle.kv_syn.specs.RawTrees.{RawTerm, RawTerms, RawForm}
+use Rattle.kv_lex.specs.Marks.{OPEN, CLOSE, COMMA, COLON, DOT, EQUAL, ARROW, DOUBLE_ARROW}
+use Rattle.kv_table.specs.Keywords.{TRUE, FALSE, NOT, AND, OR, ALL, EX}
+use Rattle.kv_raw.specs.RawTrees.{RawTerm, RawTerms, RawForm}
 use Rattle.kv_pexpr.specs.Grammar as g
 use Rattle.kv_pexpr.specs.Grammar.{IsTerm, AreTerms, IsForm, IsImp, IsDis, IsCon, IsUna}
 

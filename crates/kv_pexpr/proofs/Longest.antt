@@ -4,10 +4,10 @@ use Rattle.std.specs.Prelude.{Some, nat_le}
 use Rattle.std.proofs.lemmas.Bool.{le-leb}
 use Rattle.kv_lex.specs.declared.token.TokenKind.{TokenKind}
 use Rattle.kv_lex.specs.declared.token.TokenKind.TheVariants.{Mark}
-use Rattle.kv_lex.specs.declared.mark.TheConstants.{CLOSE, EQUAL, ARROW, DOUBLE_ARROW}
-use Rattle.kv_table.specs.declared.keyword.TheConstants.{AND, OR}
-use Rattle.kv_syn.specs.RawTrees.{RawTerm, RawForm}
-use Rattle.kv_syn.specs.RawCount.{raw_term_depth, raw_form_depth}
+use Rattle.kv_lex.specs.Marks.{CLOSE, EQUAL, ARROW, DOUBLE_ARROW}
+use Rattle.kv_table.specs.Keywords.{AND, OR}
+use Rattle.kv_raw.specs.RawTrees.{RawTerm, RawForm}
+use Rattle.kv_raw.specs.RawCount.{raw_term_depth, raw_form_depth}
 use Rattle.kv_pexpr.specs.declared.levels.Level.{Level}
 use Rattle.kv_pexpr.specs.declared.levels.Level.TheVariants as level
 use Rattle.kv_pexpr.specs.Grammar as g

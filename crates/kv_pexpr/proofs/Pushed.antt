@@ -1,10 +1,10 @@
 -- One more term at the end of a list.
 use Rattle.std.proofs.Common.{◌≡◌, List, [], ◌∷◌, ◌++◌, max, refl, ap, ◌∙◌, sym}
 use Rattle.std.specs.Prelude.{map}
-use Rattle.kv_syn.specs.RawTrees as P
-use Rattle.kv_syn.specs.RawBridge.{raw_term, raw_terms}
-use Rattle.kv_syn.specs.RawCount.{raw_term_depth, raw_terms_depth}
-use Rattle.kv_syn.specs.declared.raws.RawTerm.{RawTerm}
+use Rattle.kv_raw.specs.RawTrees as P
+use Rattle.kv_raw.specs.RawBridge.{raw_term, raw_terms}
+use Rattle.kv_raw.specs.RawCount.{raw_term_depth, raw_terms_depth}
+use Rattle.kv_raw.specs.declared.raws.RawTerm.{RawTerm}
 use Rattle.kv_pexpr.proofs.TermTurns.{ahead, depth_push}
 
 map_push : (args : List RawTerm) (t : RawTerm) → map raw_term (args ++ (t ∷ [])) ≡ map raw_term args ++ (raw_term t ∷ [])

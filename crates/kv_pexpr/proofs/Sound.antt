@@ -3,11 +3,11 @@ use Rattle.std.proofs.Common.{ℕ, zero, suc, ◌≡◌, ◌≤◌, ◌<◌, Lis
 use Rattle.std.specs.Prelude.{Some, None, ◌⊎◌, if◌then◌else◌, ◌==◌, nat_le}
 use Rattle.kv_lex.specs.declared.token.TokenKind.{TokenKind}
 use Rattle.kv_lex.specs.declared.token.TokenKind.TheVariants.{Word, Ident, Number, Mark}
-use Rattle.kv_lex.specs.declared.mark.TheConstants.{OPEN, CLOSE, COLON, DOT, EQUAL, ARROW, DOUBLE_ARROW}
-use Rattle.kv_table.specs.declared.keyword.TheConstants.{TRUE, FALSE, NOT, AND, OR, ALL, EX}
-use Rattle.kv_syn.specs.RawTrees.{RawTerm, RawForm}
-use Rattle.kv_syn.specs.RawCount.{raw_term_depth, raw_form_depth}
-use Rattle.kv_syn.specs.declared.symbols.Var.{Var}
+use Rattle.kv_lex.specs.Marks.{OPEN, CLOSE, COLON, DOT, EQUAL, ARROW, DOUBLE_ARROW}
+use Rattle.kv_table.specs.Keywords.{TRUE, FALSE, NOT, AND, OR, ALL, EX}
+use Rattle.kv_raw.specs.RawTrees.{RawTerm, RawForm}
+use Rattle.kv_raw.specs.RawCount.{raw_term_depth, raw_form_depth}
+use Rattle.kv_names.specs.declared.symbols.Var.{Var}
 use Rattle.kv_pexpr.specs.declared.levels.Level.{Level}
 use Rattle.kv_pexpr.specs.declared.levels.Level.TheVariants as level
 use Rattle.kv_pexpr.specs.Grammar as g

@@ -3,10 +3,10 @@ use Rattle.std.proofs.Common.{ℕ, zero, suc, ◌≡◌, ◌≤◌, ◌<◌, Lis
 use Rattle.std.specs.Prelude.{Some}
 use Rattle.kv_lex.specs.declared.token.TokenKind.{TokenKind}
 use Rattle.kv_lex.specs.declared.token.TokenKind.TheVariants.{Ident, Mark}
-use Rattle.kv_lex.specs.declared.mark.TheConstants.{OPEN, CLOSE, COMMA}
-use Rattle.kv_syn.specs.Trees.{Name}
-use Rattle.kv_syn.specs.RawTrees.{RawTerm, RawTerms}
-use Rattle.kv_syn.specs.RawCount.{raw_term_depth, raw_terms_depth}
+use Rattle.kv_lex.specs.Marks.{OPEN, CLOSE, COMMA}
+use Rattle.kv_names.specs.Names.{Name}
+use Rattle.kv_raw.specs.RawTrees.{RawTerm, RawTerms}
+use Rattle.kv_raw.specs.RawCount.{raw_term_depth, raw_terms_depth}
 use Rattle.kv_pexpr.specs.Grammar as g
 use Rattle.kv_pexpr.specs.Grammar.{IsTerm, AreTerms}
 use Rattle.kv_pexpr.specs.Parse.{eat_mark, eat_name, or_stay, read_map, closed, term, terms, terms_after, closed_terms, arguments, applied, Read}

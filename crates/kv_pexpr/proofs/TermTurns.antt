@@ -2,10 +2,10 @@
 use Rattle.std.proofs.Common.{◌≡◌, ℕ, suc, ◌+◌, ◌-◌, ◌<◌, ◌≤◌, ap, ◌∙◌, sym, arith, List, [], ◌∷◌, ◌++◌, max, refl}
 use Rattle.std.specs.Prelude.{Some, None}
 use Rattle.kv_lex.specs.declared.token.TokenKind.{TokenKind}
-use Rattle.kv_lex.specs.declared.mark.TheConstants.{COMMA}
-use Rattle.kv_syn.specs.Trees.{Name}
-use Rattle.kv_syn.specs.RawTrees.{RawTerm, RawTerms}
-use Rattle.kv_syn.specs.RawCount.{raw_term_depth, raw_terms_depth}
+use Rattle.kv_lex.specs.Marks.{COMMA}
+use Rattle.kv_names.specs.Names.{Name}
+use Rattle.kv_raw.specs.RawTrees.{RawTerm, RawTerms}
+use Rattle.kv_raw.specs.RawCount.{raw_term_depth, raw_terms_depth}
 use Rattle.kv_pexpr.specs.Parse.{term, terms, terms_after, arguments, applied, given, read_map, eat_name, eat_mark, Read}
 
 -- terms before others

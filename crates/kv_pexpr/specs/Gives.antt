@@ -2,12 +2,12 @@
 use Rattle.std.specs.Prelude.{ℕ, ◌≡◌, ◌≤◌, List, map, Result, Ok, Err, Option, Some, None}
 use Rattle.kv_lex.specs.declared.token.Token.{Token}
 use Rattle.kv_lex.specs.declared.token.TokenKind.{TokenKind}
-use Rattle.kv_syn.specs.RawTrees as P
-use Rattle.kv_syn.specs.RawBridge.{raw_term, raw_terms, raw_form}
-use Rattle.kv_syn.specs.RawCount.{raw_term_depth, raw_terms_depth, raw_form_depth}
-use Rattle.kv_syn.specs.declared.raws.RawForm.{RawForm}
-use Rattle.kv_syn.specs.declared.raws.RawTerm.{RawTerm}
-use Rattle.kv_syn.specs.declared.symbols.Var.{Var}
+use Rattle.kv_raw.specs.RawTrees as P
+use Rattle.kv_raw.specs.RawBridge.{raw_term, raw_terms, raw_form}
+use Rattle.kv_raw.specs.RawCount.{raw_term_depth, raw_terms_depth, raw_form_depth}
+use Rattle.kv_raw.specs.declared.raws.RawForm.{RawForm}
+use Rattle.kv_raw.specs.declared.raws.RawTerm.{RawTerm}
+use Rattle.kv_names.specs.declared.symbols.Var.{Var}
 use Rattle.kv_pexpr.specs.declared.errors.ReadError.{ReadError}
 use Rattle.kv_pexpr.specs.declared.errors.ReadError.TheVariants.{Syntax, NoMemory}
 use Rattle.kv_pexpr.specs.declared.found.Found.{Found}

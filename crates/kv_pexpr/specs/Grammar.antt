@@ -4,12 +4,12 @@
 use Rattle.std.specs.Prelude.{ℕ, suc, List, ◌∷◌, ◌≤◌, ◌≢◌}
 use Rattle.kv_lex.specs.declared.token.TokenKind.{TokenKind}
 use Rattle.kv_lex.specs.declared.token.TokenKind.TheVariants.{Word, Ident, Mark}
-use Rattle.kv_lex.specs.declared.mark.TheConstants.{OPEN, CLOSE, COMMA, COLON, DOT, EQUAL, ARROW, DOUBLE_ARROW}
-use Rattle.kv_table.specs.declared.keyword.TheConstants.{TRUE, FALSE, NOT, AND, OR, ALL, EX}
-use Rattle.kv_syn.specs.Trees.{Name}
-use Rattle.kv_syn.specs.RawTrees.{RawTerm, RawTerms, RawForm}
-use Rattle.kv_syn.specs.RawCount.{raw_term_depth, raw_form_depth}
-use Rattle.kv_syn.specs.declared.symbols.Var.{Var}
+use Rattle.kv_lex.specs.Marks.{OPEN, CLOSE, COMMA, COLON, DOT, EQUAL, ARROW, DOUBLE_ARROW}
+use Rattle.kv_table.specs.Keywords.{TRUE, FALSE, NOT, AND, OR, ALL, EX}
+use Rattle.kv_names.specs.Names.{Name}
+use Rattle.kv_raw.specs.RawTrees.{RawTerm, RawTerms, RawForm}
+use Rattle.kv_raw.specs.RawCount.{raw_term_depth, raw_form_depth}
+use Rattle.kv_names.specs.declared.symbols.Var.{Var}
 
 mutual
   -- term = name [ "(" term { "," term } ")" ]

@@ -3,7 +3,7 @@ use Rattle.std.specs.Prelude.{ℕ, ◌<◌, Result, List}
 use Rattle.std.specs.declared.alloc.Global.{Global}
 use Rattle.std.specs.Borrow.{Bor}
 use Rattle.kv_lex.specs.declared.token.Token.{Token}
-use Rattle.kv_syn.specs.declared.raws.RawForm.{RawForm}
+use Rattle.kv_raw.specs.declared.raws.RawForm.{RawForm}
 use Rattle.kv_pexpr.specs.declared.errors.ReadError.{ReadError}
 use Rattle.kv_pexpr.specs.declared.found.Found.{Found}
 use Rattle.kv_pexpr.specs.declared.levels.Level.{Level}

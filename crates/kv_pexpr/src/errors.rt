@@ -1,6 +1,6 @@
 // Why nothing was read.
 
-use kv_syn::NoMemory;
+use kv_names::NoMemory;
 use thiserror::Error;
 
 /// Why nothing was read.

@@ -1,9 +1,9 @@
 // The rules of formulas. Each takes the reader of what it contains as a parameter, so that each is proved by itself.
 
 ghost use Rattle.std.specs.Prelude.{◌≡◌, ◌+◌, ◌-◌, ◌<◌, ◌≤◌};
-ghost use Rattle.kv_syn.specs.RawTrees.{RawForm as RawTree};
-ghost use Rattle.kv_syn.specs.RawBridge.{raw_form};
-ghost use Rattle.kv_syn.specs.RawCount.{raw_form_depth};
+ghost use Rattle.kv_raw.specs.RawTrees.{RawForm as RawTree};
+ghost use Rattle.kv_raw.specs.RawBridge.{raw_form};
+ghost use Rattle.kv_raw.specs.RawCount.{raw_form_depth};
 ghost use Rattle.kv_pexpr.specs.Gives.{kinds, seen, Gives, IsHigh, joined, quantified};
 ghost use Rattle.kv_pexpr.specs.Nests.{Nests};
 ghost use Rattle.kv_pexpr.specs.Parse as spec;
@@ -15,7 +15,7 @@ use crate::levels::{Level, Operator, Quantifier};
 use crate::tokens::{eat_mark, eat_word};
 use crate::trees::{join, negation, quantify};
 use kv_lex::{Token, TokenKind, mark};
-use kv_syn::RawForm;
+use kv_raw::RawForm;
 use kv_table::keyword;
 use std::alloc::Global;
 

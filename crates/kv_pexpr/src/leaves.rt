@@ -10,7 +10,8 @@ use crate::terms::term_within;
 use crate::tokens::{eat_mark, eat_name};
 use crate::trees::atom_of;
 use kv_lex::{Token, mark};
-use kv_syn::{RawForm, Var};
+use kv_names::Var;
+use kv_raw::RawForm;
 use std::alloc::Global;
 
 /// An equation, or a term alone as an atom.

@@ -1,7 +1,7 @@
 // The longest term and the longest formula at a place.
 
 ghost use Rattle.std.specs.Prelude.{◌≡◌, ◌<◌, ◌≤◌, length, drop, IfOk};
-ghost use Rattle.kv_syn.specs.RawBridge.{raw_form, raw_term};
+ghost use Rattle.kv_raw.specs.RawBridge.{raw_form, raw_term};
 ghost use Rattle.kv_pexpr.specs.Grammar.{ReadsForm, ReadsTerm, Stops, TermStops};
 ghost use Rattle.kv_pexpr.specs.Gives.{kinds, seen, seen_term, Gives};
 ghost use Rattle.kv_pexpr.specs.Parse as spec;
@@ -13,7 +13,7 @@ use crate::grammar::read;
 use crate::levels::Level;
 use crate::terms::term_within;
 use kv_lex::Token;
-use kv_syn::{RawForm, RawTerm};
+use kv_raw::{RawForm, RawTerm};
 use std::alloc::Global;
 
 /// How high a tree of a text may be.

@@ -9,7 +9,8 @@ use crate::found::Found;
 use crate::tokens::{eat_mark, eat_name};
 use crate::trees::application;
 use kv_lex::{Token, mark};
-use kv_syn::{List, RawTerm};
+use kv_names::List;
+use kv_raw::RawTerm;
 use std::alloc::Global;
 
 /// Terms with commas between.

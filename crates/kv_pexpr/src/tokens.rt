@@ -7,7 +7,7 @@ ghost use Rattle.kv_pexpr.specs.Parse as spec;
 
 use crate::errors::ReadError;
 use kv_lex::{Token, TokenKind};
-use kv_syn::{Name, Plain};
+use kv_names::{Name, Plain};
 use std::alloc::Global;
 
 /// The tokens behind the mark, if it comes first.

@@ -1,14 +1,15 @@
 // Terms and formulas that are made of others.
 
 ghost use Rattle.std.specs.Prelude.{◌≡◌, ◌+◌, max, IfOk};
-ghost use Rattle.kv_syn.specs.RawTrees.{RawForm as RawTree, RawTerm as TermTree};
-ghost use Rattle.kv_syn.specs.RawBridge.{raw_form, raw_term, raw_terms};
-ghost use Rattle.kv_syn.specs.RawCount.{raw_form_depth, raw_term_depth, raw_terms_depth};
+ghost use Rattle.kv_raw.specs.RawTrees.{RawForm as RawTree, RawTerm as TermTree};
+ghost use Rattle.kv_raw.specs.RawBridge.{raw_form, raw_term, raw_terms};
+ghost use Rattle.kv_raw.specs.RawCount.{raw_form_depth, raw_term_depth, raw_terms_depth};
 ghost use Rattle.kv_pexpr.specs.Gives.{joined, quantified};
 ghost use Rattle.kv_pexpr.specs.Parse as spec;
 
 use crate::levels::{Operator, Quantifier};
-use kv_syn::{List, Name, NoMemory, RawForm, RawTerm, Shared, Var};
+use kv_names::{List, Name, NoMemory, Shared, Var};
+use kv_raw::{RawForm, RawTerm};
 use std::alloc::Global;
 
 /// The two with the operator between them.

@@ -1,11 +1,11 @@
 -- Terms one by one and as a list.
 use Rattle.std.proofs.Common.{◌≡◌, ℕ, ◌≤◌, List, [], ◌∷◌, length, take, map, refl, ap, ◌∙◌, take_all}
-use Rattle.kv_syn.specs.Bridge.{plain_term, plain_terms, terms_of}
-use Rattle.kv_syn.specs.RawBridge.{raw_term, raw_terms, raw_terms_of}
-use Rattle.kv_syn.specs.RawTrees.{RawTerms}
-use Rattle.kv_syn.specs.Trees as P
-use Rattle.kv_syn.specs.declared.raws.RawTerm.{RawTerm}
-use Rattle.kv_syn.specs.declared.trees.Term.{Term}
+use Rattle.kv_trees.specs.Bridge.{plain_term, plain_terms, terms_of}
+use Rattle.kv_raw.specs.RawBridge.{raw_term, raw_terms, raw_terms_of}
+use Rattle.kv_raw.specs.RawTrees.{RawTerms}
+use Rattle.kv_trees.specs.Trees as P
+use Rattle.kv_raw.specs.declared.raws.RawTerm.{RawTerm}
+use Rattle.kv_trees.specs.declared.trees.Term.{Term}
 use Rattle.kv_print.specs.Shown.{shown_term, shown_terms}
 
 -- at the end of a loop that shows each term

@@ -1,8 +1,8 @@
 -- The layout of terms, formulas and programs as texts spell them.
 use Rattle.std.specs.Prelude.{ℕ, Bool, true, false, if◌then◌else◌, List, [], ◌∷◌, ◌++◌, codes}
-use Rattle.kv_syn.specs.Trees.{Name}
-use Rattle.kv_syn.specs.RawTrees.{RawTerm, RawTerms, RawForm, RawProg}
-use Rattle.kv_syn.specs.declared.symbols.Var.{Var}
+use Rattle.kv_names.specs.Names.{Name}
+use Rattle.kv_raw.specs.RawTrees.{RawTerm, RawTerms, RawForm, RawProg}
+use Rattle.kv_names.specs.declared.symbols.Var.{Var}
 use Rattle.kv_print.specs.Pieces.{Piece}
 use Rattle.kv_print.specs.Pieces.Piece.{Space, Word, Ident, Mark}
 

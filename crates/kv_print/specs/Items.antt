@@ -1,8 +1,8 @@
 -- The parts of items, behind their names.
 use Rattle.std.specs.Prelude.{List, [], ◌∷◌, ◌++◌, Option, Some, None, codes}
-use Rattle.kv_syn.specs.Trees.{Name}
-use Rattle.kv_syn.specs.RawTrees.{RawProg}
-use Rattle.kv_syn.specs.declared.symbols.Var.{Var}
+use Rattle.kv_names.specs.Names.{Name}
+use Rattle.kv_raw.specs.RawTrees.{RawProg}
+use Rattle.kv_names.specs.declared.symbols.Var.{Var}
 use Rattle.kv_print.specs.Pieces.{Piece}
 use Rattle.kv_print.specs.Pieces.Piece.{Space, Mark}
 use Rattle.kv_print.specs.Forms.{block, names_pieces, printed_prog, var_pieces}

@@ -1,7 +1,7 @@
 -- The canonical text of a project, of the forms that projects have so far: basic units.
 use Rattle.std.specs.Prelude.{ℕ, Bool, true, false, List, [], ◌∷◌, ◌++◌, codes, flat_map}
 use Rattle.kv_syn.specs.Scripts.{Script}
-use Rattle.kv_syn.specs.Trees.{Name}
+use Rattle.kv_names.specs.Names.{Name}
 use Rattle.kv_syn.specs.Projects.{Theorem, Proof, Item, Kind, Project}
 use Rattle.kv_syn.specs.Projects as P
 use Rattle.kv_print.specs.Pieces.{Piece, spell}

@@ -1,11 +1,11 @@
 -- The layout of steps and scripts.
 use Rattle.std.specs.Prelude.{ℕ, if◌then◌else◌, ◌==◌, List, [], ◌∷◌, ◌++◌, Option, Some, None, codes, flat_map}
-use Rattle.kv_syn.specs.RawTrees.{RawForm}
+use Rattle.kv_raw.specs.RawTrees.{RawForm}
 use Rattle.kv_syn.specs.Scripts.{Step, StepText, Script, Scripts}
 use Rattle.kv_syn.specs.declared.scripts.Side.{Side}
 use Rattle.kv_syn.specs.declared.scripts.Side.TheVariants.{L, R}
-use Rattle.kv_table.specs.Tables.{rule_rows}
-use Rattle.kv_table.specs.declared.rule.TheConstants as rule
+use Rattle.kv_table.specs.Rules.{rule_rows}
+use Rattle.kv_table.specs.Rules as rule
 use Rattle.kv_print.specs.Pieces.{Piece}
 use Rattle.kv_print.specs.Pieces.Piece.{Space, Word, Ident, Number, Label, Mark}
 use Rattle.kv_print.specs.Forms.{form_pieces, term_pieces}

@@ -4,7 +4,8 @@ use Rattle.kv_syn.specs.declared.outcomes.Need.{Need}
 use Rattle.kv_syn.specs.declared.outcomes.Reason.{Reason}
 use Rattle.kv_syn.specs.declared.outcomes.State.{State}
 use Rattle.kv_syn.specs.declared.outcomes.State.TheVariants.{Ill, Broken, Open, Proved, Waiting, Cyclic, Idle}
-use Rattle.kv_table.specs.Tables.{reason_rows, rule_rows}
+use Rattle.kv_table.specs.Reasons.{reason_rows}
+use Rattle.kv_table.specs.Rules.{rule_rows}
 
 -- the word at a row of a table, which has that row
 abbrev pub word : List (List ℕ) → ℕ → List ℕ

@@ -2,7 +2,7 @@
 #![tactic(auto, using(crate::proofs::Spelling::spell_append))]
 
 ghost use Rattle.std.specs.Prelude.{◌≡◌, ◌++◌, OnOk};
-ghost use Rattle.kv_syn.specs.RawBridge.{raw_form, raw_prog, raw_term, raw_terms};
+ghost use Rattle.kv_raw.specs.RawBridge.{raw_form, raw_prog, raw_term, raw_terms};
 ghost use Rattle.kv_print.specs.Forms.{block, first_part, form_pieces, in_brackets, names_pieces, operand, printed_form, printed_prog, refs_pieces, term_pieces, terms_pieces, var_pieces};
 ghost use Rattle.kv_print.specs.Pieces.{spell};
 

@@ -4,7 +4,7 @@
 ghost use Rattle.std.specs.Prelude.{◌≡◌, ◌++◌, true, OnOk};
 ghost use Rattle.std.specs.Option.{option_map};
 ghost use Rattle.kv_syn.specs.ProjectBridge.{plain_item};
-ghost use Rattle.kv_syn.specs.RawBridge.{raw_prog};
+ghost use Rattle.kv_raw.specs.RawBridge.{raw_prog};
 ghost use Rattle.kv_syn.specs.Readable.{is_readable_item};
 ghost use Rattle.kv_print.specs.Items.{arguments_pieces, body_pieces, parameters_pieces, ref_vars_pieces, sorts_pieces, vars_pieces};
 ghost use Rattle.kv_print.specs.Layout.{item_pieces};

@@ -3,7 +3,7 @@
 ghost use Rattle.std.specs.Prelude.{◌≡◌, ◌<◌, ◌++◌, true, decimal, OnOk};
 ghost use Rattle.kv_print.specs.Texts.{word, path_text, reason_text, need_text};
 ghost use Rattle.kv_syn.specs.Rows.{has_reason_row};
-ghost use Rattle.kv_table.specs.Tables.{state_rows};
+ghost use Rattle.kv_table.specs.States.{state_count, state_rows};
 
 use kv_syn::{Bytes, Need, NoMemory, Path, Reason};
 use kv_table::{reasons, states};
@@ -11,7 +11,7 @@ use std::alloc::Global;
 
 /// The word of a state, by its row.
 pub fn push_word(text: &mut Bytes, row: u32) -> Result<(), NoMemory>
-    requires { row < 11 }
+    requires { row < state_count }
     ensures { OnOk result (text.new ≡ text.old ++ word state_rows row) }
 {
     text.append(states().name(row as usize).as_bytes())

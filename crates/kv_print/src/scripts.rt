@@ -7,7 +7,7 @@ ghost use Rattle.kv_print.specs.Layout as spec;
 ghost use Rattle.kv_print.specs.Pieces.{spell};
 ghost use Rattle.kv_print.specs.Scripts.{children_pieces, number_pieces, place_pieces, script_pieces, side_pieces, step_pieces, text_pieces};
 ghost use Rattle.kv_print.specs.Texts.{word};
-ghost use Rattle.kv_table.specs.Tables.{rule_rows};
+ghost use Rattle.kv_table.specs.Rules.{rule_rows};
 
 use crate::forms::{push_form, push_term};
 use crate::pieces::push_number;

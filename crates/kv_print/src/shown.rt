@@ -1,11 +1,10 @@
 // Typed terms, formulas and programs as raw ones, with `$k` for bound variables, and their texts.
 
-ghost use Rattle.std.specs.Prelude.{◌≡◌, ◌+◌, ◌<◌, ◌^◌, map, IfOk};
-ghost use Rattle.kv_syn.specs.Bridge.{plain_form, plain_prog, plain_term, plain_terms};
-ghost use Rattle.kv_syn.specs.RawBridge.{raw_form, raw_prog, raw_term, raw_terms};
-ghost use Rattle.kv_syn.specs.Variables.{form_binders, prog_binders};
+ghost use Rattle.std.specs.Prelude.{◌≡◌, ◌+◌, ◌^◌, map, IfOk, IsErr};
+ghost use Rattle.kv_trees.specs.Bridge.{plain_form, plain_prog, plain_term, plain_terms};
+ghost use Rattle.kv_raw.specs.RawBridge.{raw_form, raw_prog, raw_term, raw_terms};
 ghost use Rattle.kv_print.specs.Shown as spec;
-ghost use Rattle.kv_print.specs.Shown.{binder_name, shown_callee, shown_form, shown_prog, shown_ref, shown_term, shown_terms, shown_var};
+ghost use Rattle.kv_print.specs.Shown.{binder_name, shown_callee, shown_form, shown_prog, shown_ref, shown_term, shown_terms};
 
 use crate::forms::{push_form, push_prog};
 use crate::pieces::push_number;
@@ -16,14 +15,11 @@ use kv_syn::{
 use std::alloc::Global;
 
 /// The text of a typed formula, laid out as those of a project are: the variable of a binder is `$k`, where k - 1 binders
-/// stand round it, blocks of programs among them; an assumed procedure is written by its name. `NoMemory` too where the
-/// formula is 2^32 - 1 deep.
+/// stand round it, blocks of programs among them; an assumed procedure is written by its name. `NoMemory` too where
+/// 2^32 binders stand inside one another.
 pub fn form_text(alloc: Global, form: &Form) -> Result<Bytes, NoMemory>
     ensures { IfOk result (λ text. text ≡ spec.form_text (plain_form form.now)) }
 {
-    if form.depth() == u32::MAX {
-        return Err(NoMemory);
-    }
     let raw = form_shown(alloc, form, 0)?;
     let mut text = Bytes::new(alloc);
     push_form(&mut text, &raw)?;
@@ -31,13 +27,10 @@ pub fn form_text(alloc: Global, form: &Form) -> Result<Bytes, NoMemory>
 }
 
 /// The text of a typed program that stands inside so many binders, whose variables are `$1`, `$2` and so on from outside.
-/// `NoMemory` too where it is so deep that these and its own binders may pass 2^32.
+/// `NoMemory` too where 2^32 binders stand inside one another, these among them.
 pub fn prog_text(alloc: Global, prog: &Prog, around: u32) -> Result<Bytes, NoMemory>
     ensures { IfOk result (λ text. text ≡ spec.prog_text (plain_prog prog.now) around) }
 {
-    if prog.depth() >= u32::MAX - around {
-        return Err(NoMemory);
-    }
     let raw = prog_shown(alloc, prog, around)?;
     let mut text = Bytes::new(alloc);
     push_prog(&mut text, &raw)?;
@@ -73,14 +66,21 @@ fn refs_shown(alloc: Global, refs: &[Ref], around: u32) -> Result<List<Name>, No
     Ok(names)
 }
 
-/// The variable of a further binder.
-fn var_shown(alloc: Global, sort: &Name, around: u32) -> Result<Var, NoMemory>
-    requires { around + 1 < 2 ^ 32 }
-    ensures { IfOk result (λ var. var ≡ shown_var around sort.now) }
+/// The place of a further binder; `NoMemory` exactly where it is the 2^32nd.
+fn one_more(around: u32) -> Result<u32, NoMemory>
+    ensures value { IfOk result (λ place. place ≡ around + 1) }
+    ensures refuses { IsErr result → around + 1 ≡ 2 ^ 32 }
+{
+    around.checked_add(1).ok_or(NoMemory)
+}
+
+/// The variable of the binder at that place.
+fn var_shown(alloc: Global, sort: &Name, place: u32) -> Result<Var, NoMemory>
+    ensures { IfOk result (λ var. var ≡ record { name = binder_name place; sort = sort.now }) }
 {
     let sort = sort.copy(alloc)?;
     Ok(Var {
-        name: binder_name(alloc, around + 1)?,
+        name: binder_name(alloc, place)?,
         sort,
     })
 }
@@ -132,7 +132,6 @@ fn terms_shown(alloc: Global, terms: &[Term], around: u32) -> Result<List<RawTer
 
 #[cycle(form_shown)]
 fn form_shown(alloc: Global, form: &Form, around: u32) -> Result<RawForm, NoMemory>
-    requires { form_binders (plain_form form.now) + around < 2 ^ 32 }
     ensures { IfOk result (λ f. raw_form f ≡ shown_form around (plain_form form.now)) }
 {
     match form {
@@ -160,14 +159,16 @@ fn form_shown(alloc: Global, form: &Form, around: u32) -> Result<RawForm, NoMemo
             shared_form(alloc, f, around)?,
             shared_form(alloc, g, around)?,
         )),
-        Form::All(s, f) => Ok(RawForm::All(
-            var_shown(alloc, s, around)?,
-            shared_form(alloc, f, around + 1)?,
-        )),
-        Form::Ex(s, f) => Ok(RawForm::Ex(
-            var_shown(alloc, s, around)?,
-            shared_form(alloc, f, around + 1)?,
-        )),
+        Form::All(s, f) => {
+            let place = one_more(around)?;
+            let var = var_shown(alloc, s, place)?;
+            Ok(RawForm::All(var, shared_form(alloc, f, place)?))
+        }
+        Form::Ex(s, f) => {
+            let place = one_more(around)?;
+            let var = var_shown(alloc, s, place)?;
+            Ok(RawForm::Ex(var, shared_form(alloc, f, place)?))
+        }
         Form::After(a, f) => Ok(RawForm::After(
             shared_prog(alloc, a, around)?,
             shared_form(alloc, f, around)?,
@@ -181,7 +182,6 @@ fn form_shown(alloc: Global, form: &Form, around: u32) -> Result<RawForm, NoMemo
 
 #[cycle(form_shown)]
 fn shared_form(alloc: Global, form: &Shared<Form>, around: u32) -> Result<Shared<RawForm>, NoMemory>
-    requires { form_binders (plain_form form.now) + around < 2 ^ 32 }
     ensures { IfOk result (λ f. raw_form f ≡ shown_form around (plain_form form.now)) }
 {
     Shared::new(alloc, form_shown(alloc, form.get(), around)?)
@@ -189,7 +189,6 @@ fn shared_form(alloc: Global, form: &Shared<Form>, around: u32) -> Result<Shared
 
 #[cycle(form_shown)]
 fn prog_shown(alloc: Global, prog: &Prog, around: u32) -> Result<RawProg, NoMemory>
-    requires { prog_binders (plain_prog prog.now) + around < 2 ^ 32 }
     ensures { IfOk result (λ a. raw_prog a ≡ shown_prog around (plain_prog prog.now)) }
 {
     match prog {
@@ -212,11 +211,12 @@ fn prog_shown(alloc: Global, prog: &Prog, around: u32) -> Result<RawProg, NoMemo
             shared_form(alloc, e, around)?,
             shared_prog(alloc, a, around)?,
         )),
-        Prog::Local(s, t, a) => Ok(RawProg::Local(
-            var_shown(alloc, s, around)?,
-            term_shown(alloc, t, around)?,
-            shared_prog(alloc, a, around + 1)?,
-        )),
+        Prog::Local(s, t, a) => {
+            let place = one_more(around)?;
+            let var = var_shown(alloc, s, place)?;
+            let term = term_shown(alloc, t, around)?;
+            Ok(RawProg::Local(var, term, shared_prog(alloc, a, place)?))
+        }
         Prog::Call(p, ts, rs) => Ok(RawProg::Call(
             callee_shown(alloc, p)?,
             shared_terms(alloc, ts, around)?,
@@ -231,7 +231,6 @@ fn prog_shown(alloc: Global, prog: &Prog, around: u32) -> Result<RawProg, NoMemo
 
 #[cycle(form_shown)]
 fn shared_prog(alloc: Global, prog: &Shared<Prog>, around: u32) -> Result<Shared<RawProg>, NoMemory>
-    requires { prog_binders (plain_prog prog.now) + around < 2 ^ 32 }
     ensures { IfOk result (λ a. raw_prog a ≡ shown_prog around (plain_prog prog.now)) }
 {
     Shared::new(alloc, prog_shown(alloc, prog.get(), around)?)

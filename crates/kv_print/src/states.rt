@@ -29,7 +29,7 @@ pub fn state_text(alloc: Global, state: &State) -> Result<Bytes, NoMemory>
     Ok(text)
 }
 
-#[tactic(auto, unfolding(kv_table::specs::Tables::state_rows))]
+#[tactic(auto, unfolding(kv_table::specs::States::state_rows))]
 fn push_state(alloc: Global, text: &mut Bytes, state: &State) -> Result<(), NoMemory>
     requires { has_state_rows state.now ≡ true }
     ensures { OnOk result (text.new ≡ text.old ++ spec.state_text state.now) }

@@ -8,15 +8,17 @@ use Rattle.kv_sig.specs.Sequents.{in_place, at_end}
 use Rattle.kv_sig.specs.Steps.{TypedText, TypedStep}
 use Rattle.kv_sig.specs.Views.{View, AnswersAlike}
 use Rattle.kv_subst.specs.Opening.{open_form}
-use Rattle.kv_syn.specs.Trees.{Name, Term, Form, Sequent}
+use Rattle.kv_names.specs.Names.{Name}
+use Rattle.kv_trees.specs.Trees.{Term, Form, Sequent}
 use Rattle.kv_syn.specs.declared.scripts.Side.{Side}
 use Rattle.kv_syn.specs.declared.scripts.Side.TheVariants.{L, R}
-use Rattle.kv_syn.specs.declared.symbols.Profile.{Profile}
-use Rattle.kv_syn.specs.declared.symbols.Var.{Var}
-use Rattle.kv_syn.specs.declared.trees.Ref.TheVariants.{Free, Bound}
-use Rattle.kv_table.specs.declared.rule.TheConstants as rule
+use Rattle.kv_names.specs.declared.symbols.Profile.{Profile}
+use Rattle.kv_names.specs.declared.symbols.Var.{Var}
+use Rattle.kv_trees.specs.declared.trees.Ref.TheVariants.{Free, Bound}
+use Rattle.kv_table.specs.Rules as rule
 use Rattle.kv_prop.specs.Laws.{SamePremises}
-use Rattle.kv_prop.specs.Premises.{at_place, as_all, as_ex, or_fresh, or_captured, or_sort, or_label, result_of, sort_of, variable, one, premises_of, needs}
+use Rattle.kv_trees.specs.Variables.{variable}
+use Rattle.kv_prop.specs.Premises.{at_place, as_all, as_ex, or_fresh, or_captured, or_sort, or_label, result_of, sort_of, one, premises_of, needs}
 use Rattle.kv_prop.specs.Rows.{Row, beside, number_rows, name_rows, term_rows, row_where, row_on, row_by}
 
 pub if_is : {A : Type 0} (P : A → Type 0) (b : Bool) (x y : A) → P x → P y → P (if b then x else y)

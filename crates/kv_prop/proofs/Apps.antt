@@ -1,24 +1,24 @@
 -- The code's trees by their variant, as plain ones.
 use Rattle.std.proofs.Common.{◌≡◌, ℕ, ◌+◌, ◌-◌, ◌^◌, List, ap, sym, ◌∙◌}
 use Rattle.std.specs.Prelude.{Bool, ◌&&◌, if◌then◌else◌, min}
-use Rattle.kv_syn.specs.Bridge.{plain_term, plain_terms, plain_term_step, plain_form, plain_prog, plain_form_step, plain_prog_step}
-use Rattle.kv_syn.specs.Count.{term_nodes, terms_nodes, form_nodes, prog_nodes, term_depth, terms_depth, form_depth, prog_depth}
-use Rattle.kv_syn.specs.Same.{form_eq}
-use Rattle.kv_syn.specs.Trees as P
-use Rattle.kv_syn.specs.declared.trees.Form.{Form, fold-roll-Form}
-use Rattle.kv_syn.specs.declared.trees.Form as F
-use Rattle.kv_syn.specs.declared.trees.Form.TheOpen as L
-use Rattle.kv_syn.specs.declared.trees.Form.TheVariants.{rolls-Atom, rolls-After, rolls-Can}
-use Rattle.kv_syn.specs.declared.symbols.Callee.{Callee}
-use Rattle.kv_syn.specs.declared.trees.Prog.{Prog, fold-roll-Prog}
-use Rattle.kv_syn.specs.declared.trees.Prog as G
-use Rattle.kv_syn.specs.declared.trees.Prog.TheVariants.{rolls-Call}
-use Rattle.kv_syn.specs.declared.trees.Ref.{Ref}
-use Rattle.kv_syn.specs.declared.trees.Term.{Term}
-use Rattle.kv_syn.specs.declared.trees.Term as T
-use Rattle.kv_syn.specs.declared.trees.Term.TheOpen as O
-use Rattle.kv_syn.specs.declared.trees.Term.TheVariants.{rolls-App}
-use Rattle.kv_syn.proofs.Same.{prog_same}
+use Rattle.kv_trees.specs.Bridge.{plain_term, plain_terms, plain_term_step, plain_form, plain_prog, plain_form_step, plain_prog_step}
+use Rattle.kv_trees.specs.Count.{term_nodes, terms_nodes, form_nodes, prog_nodes, term_depth, terms_depth, form_depth, prog_depth}
+use Rattle.kv_trees.specs.Same.{form_eq}
+use Rattle.kv_trees.specs.Trees as P
+use Rattle.kv_trees.specs.declared.trees.Form.{Form, fold-roll-Form}
+use Rattle.kv_trees.specs.declared.trees.Form as F
+use Rattle.kv_trees.specs.declared.trees.Form.TheOpen as L
+use Rattle.kv_trees.specs.declared.trees.Form.TheVariants.{rolls-Atom, rolls-After, rolls-Can}
+use Rattle.kv_names.specs.declared.symbols.Callee.{Callee}
+use Rattle.kv_trees.specs.declared.trees.Prog.{Prog, fold-roll-Prog}
+use Rattle.kv_trees.specs.declared.trees.Prog as G
+use Rattle.kv_trees.specs.declared.trees.Prog.TheVariants.{rolls-Call}
+use Rattle.kv_trees.specs.declared.trees.Ref.{Ref}
+use Rattle.kv_trees.specs.declared.trees.Term.{Term}
+use Rattle.kv_trees.specs.declared.trees.Term as T
+use Rattle.kv_trees.specs.declared.trees.Term.TheOpen as O
+use Rattle.kv_trees.specs.declared.trees.Term.TheVariants.{rolls-App}
+use Rattle.kv_trees.proofs.Same.{prog_same}
 use Rattle.kv_subst.specs.Changing.{Change, changed_term, changed_terms, changed_form, changed_prog}
 use Rattle.kv_goal.specs.Measures.{Measures}
 use Rattle.kv_prop.specs.Replacing.{replaced_form, touches}

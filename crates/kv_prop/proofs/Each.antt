@@ -1,8 +1,8 @@
 -- Terms one by one and as a list.
 use Rattle.std.proofs.Common.{◌≡◌, ℕ, ◌≤◌, List, [], ◌∷◌, length, take, map, refl, ap, ◌∙◌, take_all}
-use Rattle.kv_syn.specs.Bridge.{plain_term, plain_terms, terms_of}
-use Rattle.kv_syn.specs.Trees as P
-use Rattle.kv_syn.specs.declared.trees.Term.{Term}
+use Rattle.kv_trees.specs.Bridge.{plain_term, plain_terms, terms_of}
+use Rattle.kv_trees.specs.Trees as P
+use Rattle.kv_trees.specs.declared.trees.Term.{Term}
 use Rattle.kv_prop.specs.Replacing.{replaced_term, replaced_terms}
 
 -- at the end of a loop that replaces in each term

@@ -1,9 +1,9 @@
 -- The place of a variable in an opening.
 use Rattle.std.proofs.Common.{◌≡◌, ◌≢◌, ℕ, inl, inr, ap, ◌∙◌}
 use Rattle.std.proofs.lemmas.Bool.{cases_order}
-use Rattle.kv_syn.specs.Count.{term_nodes, term_depth}
-use Rattle.kv_syn.specs.Trees.{Term}
-use Rattle.kv_syn.specs.declared.trees.Ref.TheVariants.{Bound}
+use Rattle.kv_trees.specs.Count.{term_nodes, term_depth}
+use Rattle.kv_trees.specs.Trees.{Term}
+use Rattle.kv_trees.specs.declared.trees.Ref.TheVariants.{Bound}
 use Rattle.kv_subst.specs.Opening.{opened}
 use Rattle.kv_subst.proofs.Single.{opened_below, opened_here, opened_above}
 use Rattle.kv_prop.proofs.Sums.{raised_nodes, raised_depth}

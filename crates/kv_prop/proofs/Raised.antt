@@ -3,11 +3,11 @@ use Rattle.std.proofs.Common.{◌≡◌, ℕ, List, [], ◌∷◌, length, true,
 use Rattle.std.specs.Bool.{one_answer}
 use Rattle.std.specs.Prelude.{Bool}
 use Rattle.std.proofs.lemmas.Bool.{cond-true}
-use Rattle.kv_syn.specs.Bridge.{plain_term, plain_terms}
-use Rattle.kv_syn.specs.Same.{term_eq, terms_eq}
-use Rattle.kv_syn.specs.Trees.{Term}
-use Rattle.kv_syn.specs.declared.trees.Term.{Term as TermRow}
-use Rattle.kv_syn.proofs.Same.{parts, term_is, term_same}
+use Rattle.kv_trees.specs.Bridge.{plain_term, plain_terms}
+use Rattle.kv_trees.specs.Same.{term_eq, terms_eq}
+use Rattle.kv_trees.specs.Trees.{Term}
+use Rattle.kv_trees.specs.declared.trees.Term.{Term as TermRow}
+use Rattle.kv_trees.proofs.Same.{parts, term_is, term_same}
 use Rattle.kv_subst.specs.Opening.{raised_term, raised_terms}
 use Rattle.kv_prop.specs.Replacing.{replaced_term, replaced_terms}
 

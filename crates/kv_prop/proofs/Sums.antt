@@ -1,8 +1,8 @@
 -- Nodes and depth of formulas in a row, and of terms that are put somewhere.
 use Rattle.std.proofs.Common.{◌≡◌, ℕ, ◌+◌, List, [], ◌∷◌, ◌++◌, refl, arith}
 use Rattle.std.specs.Prelude.{max}
-use Rattle.kv_syn.specs.Count.{term_nodes, terms_nodes, term_depth, terms_depth, forms_nodes, forms_depth}
-use Rattle.kv_syn.specs.Trees.{Term, Terms, Form}
+use Rattle.kv_trees.specs.Count.{term_nodes, terms_nodes, term_depth, terms_depth, forms_nodes, forms_depth}
+use Rattle.kv_trees.specs.Trees.{Term, Terms, Form}
 use Rattle.kv_subst.specs.Opening.{raised_term, raised_terms}
 
 pub nodes_of_both : (xs ys : List Form) → forms_nodes (xs ++ ys) ≡ forms_nodes xs + forms_nodes ys

@@ -3,8 +3,8 @@ use Rattle.std.specs.Prelude.{List, [], ◌∷◌, ◌++◌, Option, Some, None,
 use Rattle.kv_sig.specs.Sequents.{sequent}
 use Rattle.kv_subst.specs.Changing.{changed_form}
 use Rattle.kv_subst.specs.Opening.{opened}
-use Rattle.kv_syn.specs.Bridge.{plain_term, plain_form}
-use Rattle.kv_syn.specs.Trees.{Form, Sequent}
+use Rattle.kv_trees.specs.Bridge.{plain_term, plain_form}
+use Rattle.kv_trees.specs.Trees.{Form, Sequent}
 use Rattle.kv_goal.specs.Goals.{plain_known}
 use Rattle.kv_prop.specs.Replacing.{replaced_form}
 use Rattle.kv_prop.specs.declared.drafts.Draft.{Draft}
@@ -18,7 +18,7 @@ form_of (Copied f) = plain_form f.now
 form_of (Imp f g) = Form.Imp (plain_form f.now) (plain_form g.now)
 form_of (Equal t u) = Form.Equal (plain_term t.now) (plain_term u.now)
 form_of (Opened o) = changed_form (opened (plain_term o.at.now)) 0 (plain_form o.body.now)
-form_of (Replaced t u f) = replaced_form (plain_term t.now) (plain_term u.now) 0 (plain_form f.now)
+form_of (Replaced r) = replaced_form (plain_term r.from.now) (plain_term r.to.now) 0 (plain_form r.form.now)
 
 abbrev pub forms_of : Option New → List Form
 forms_of None = []

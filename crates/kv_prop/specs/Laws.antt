@@ -3,7 +3,7 @@ use Rattle.std.specs.Prelude.{◌≡◌}
 use Rattle.kv_sig.specs.Members.{Every}
 use Rattle.kv_sig.specs.Steps.{TypedStep}
 use Rattle.kv_sig.specs.Views.{View, AnswersAlike}
-use Rattle.kv_syn.specs.Trees.{Sequent}
+use Rattle.kv_trees.specs.Trees.{Sequent}
 use Rattle.kv_prop.specs.Premises.{premises, needs}
 
 -- where two views answer alike what a step needs, its premises are the same

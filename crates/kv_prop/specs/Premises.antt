@@ -4,31 +4,34 @@ use Rattle.std.specs.Prelude.{ℕ, ◌≡◌, Bool, false, not, ◌&&◌, ◌==�
 use Rattle.std.specs.List.{list_any}
 use Rattle.std.specs.Str.{bytes_eq}
 use Rattle.kv_sig.specs.declared.refusals.StepError.{StepError}
-use Rattle.kv_sig.specs.declared.refusals.StepError.TheVariants.{Position, Shape, Sort, NoLabel, NoBody, NoGeneration, NotFresh, Captured, Large, NoMemory}
+use Rattle.kv_sig.specs.declared.refusals.StepError.TheVariants as error
 use Rattle.kv_sig.specs.FreeNames.{free_sequent, assumed_sequent}
 use Rattle.kv_sig.specs.Places.{item_at}
 use Rattle.kv_sig.specs.Sequents.{side_of, in_place, two_in_place, at_end, without}
 use Rattle.kv_sig.specs.Steps.{TypedText, TypedStep}
 use Rattle.kv_sig.specs.Views.{View}
 use Rattle.kv_subst.specs.Opening.{open_form}
-use Rattle.kv_syn.specs.Count.{sequent_nodes, sequent_depth}
-use Rattle.kv_syn.specs.Same.{form_eq, term_eq}
-use Rattle.kv_syn.specs.Trees.{Name, Term, Form, Sequent}
+use Rattle.kv_trees.specs.Count.{sequent_nodes, sequent_depth}
+use Rattle.kv_trees.specs.Same.{form_eq, term_eq}
+use Rattle.kv_names.specs.Names.{Name}
+use Rattle.kv_trees.specs.Trees.{Term, Form, Sequent}
 use Rattle.kv_syn.specs.declared.outcomes.Look.{Look}
 use Rattle.kv_syn.specs.declared.outcomes.Look.TheVariants.{Symbol, Label}
 use Rattle.kv_syn.specs.declared.scripts.Side.{Side}
 use Rattle.kv_syn.specs.declared.scripts.Side.TheVariants.{L, R}
-use Rattle.kv_syn.specs.declared.symbols.Profile.{Profile}
-use Rattle.kv_syn.specs.declared.symbols.Profile.TheVariants.{Fun}
-use Rattle.kv_syn.specs.declared.symbols.Var.{Var}
-use Rattle.kv_syn.specs.declared.trees.Ref.TheVariants.{Free, Bound}
+use Rattle.kv_names.specs.declared.symbols.Profile.{Profile}
+use Rattle.kv_names.specs.declared.symbols.Profile.TheVariants.{Fun}
+use Rattle.kv_names.specs.declared.symbols.Var.{Var}
+use Rattle.kv_trees.specs.declared.trees.Ref.TheVariants.{Free, Bound}
+use Rattle.kv_trees.specs.Variables.{variable}
+use Rattle.kv_prop.specs.Refusals.{Refusal, Position, Shape, Sort, NoLabel, NoBody, NoGeneration, NotFresh, Captured, Large}
 use Rattle.kv_prop.specs.Replacing.{replaced_form}
 use Rattle.kv_prop.specs.Rows.{Row, row_of}
-use Rattle.kv_prop.specs.declared.limits.TheConstants.{SEQUENT_NODES, SEQUENT_DEPTH}
+use Rattle.kv_prop.specs.Limits.{is_small}
 
 -- the premises in order, or the refusal
 abbrev pub Premises : Type 0
-Premises = Result (List Sequent) StepError
+Premises = Result (List Sequent) Refusal
 
 -- ---- position
 
@@ -139,13 +142,10 @@ abbrev pub or_captured : Option Form → (Form → Premises) → Premises
 or_captured (Some f) next = next f
 or_captured None next = Err Captured
 
-abbrev pub variable : Name → Name → Term
-variable x sort = Term.Place (Free (record { name = x; sort = sort }))
-
 -- ---- large
 
 abbrev pub fits : Sequent → Bool
-fits s = nat_le (sequent_nodes s) SEQUENT_NODES && nat_le (sequent_depth s) SEQUENT_DEPTH
+fits s = is_small (sequent_nodes s) (sequent_depth s)
 
 -- the sequent alone, and two sequents, where all keep the limits
 abbrev pub one : Sequent → Premises
@@ -229,15 +229,15 @@ needs (TypedText.OfForm f) = []
 needs (TypedText.OfLabel l) = Label l ∷ []
 
 -- what a call answers, as `see` shows it: the value or the very refusal, but for want of memory
-abbrev pub Gives : {T S : Type 0} → (T → S) → Result T StepError → Result S StepError → Type 0
+abbrev pub Gives : {T S : Type 0} → (T → S) → Result T StepError → Result S Refusal → Type 0
 Gives see (Ok x) want = want ≡ Ok (see x)
-Gives see (Err NoMemory) want = Unit {0}
-Gives see (Err Position) want = want ≡ Err Position
-Gives see (Err Shape) want = want ≡ Err Shape
-Gives see (Err (Sort w g)) want = want ≡ Err (Sort w g)
-Gives see (Err (NoLabel l)) want = want ≡ Err (NoLabel l)
-Gives see (Err (NoBody n)) want = want ≡ Err (NoBody n)
-Gives see (Err (NoGeneration s)) want = want ≡ Err (NoGeneration s)
-Gives see (Err (NotFresh n)) want = want ≡ Err (NotFresh n)
-Gives see (Err Captured) want = want ≡ Err Captured
-Gives see (Err Large) want = want ≡ Err Large
+Gives see (Err error.NoMemory) want = Unit {0}
+Gives see (Err error.Position) want = want ≡ Err Position
+Gives see (Err error.Shape) want = want ≡ Err Shape
+Gives see (Err (error.Sort w g)) want = want ≡ Err (Sort w g)
+Gives see (Err (error.NoLabel l)) want = want ≡ Err (NoLabel l)
+Gives see (Err (error.NoBody n)) want = want ≡ Err (NoBody n)
+Gives see (Err (error.NoGeneration s)) want = want ≡ Err (NoGeneration s)
+Gives see (Err (error.NotFresh n)) want = want ≡ Err (NotFresh n)
+Gives see (Err error.Captured) want = want ≡ Err Captured
+Gives see (Err error.Large) want = want ≡ Err Large

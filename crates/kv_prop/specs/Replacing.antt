@@ -1,8 +1,8 @@
 -- A term in place of another one.
 use Rattle.std.specs.Prelude.{ℕ, ◌+◌, Bool, ◌||◌, if◌then◌else◌}
-use Rattle.kv_syn.specs.Same.{term_eq}
-use Rattle.kv_syn.specs.Trees.{Term, Terms, Form, Prog}
-use Rattle.kv_syn.specs.Variables.{term_any, modifies}
+use Rattle.kv_trees.specs.Same.{term_eq}
+use Rattle.kv_trees.specs.Trees.{Term, Terms, Form, Prog}
+use Rattle.kv_trees.specs.Variables.{term_any, modifies}
 use Rattle.kv_subst.specs.Opening.{raised_term}
 
 abbrev mutual

@@ -1,10 +1,11 @@
 -- What a step asks for, by its rule, its numbers, its side and its text.
 use Rattle.std.specs.Prelude.{ℕ, ◌==◌, if◌then◌else◌, List, [], ◌∷◌, Option, Some, None}
-use Rattle.kv_syn.specs.Trees.{Name, Term, Form}
+use Rattle.kv_names.specs.Names.{Name}
+use Rattle.kv_trees.specs.Trees.{Term, Form}
 use Rattle.kv_syn.specs.declared.scripts.Side.{Side}
 pub use Rattle.kv_sig.specs.Steps.{beside}
 use Rattle.kv_sig.specs.Steps.{TypedText, TypedStep}
-use Rattle.kv_table.specs.declared.rule.TheConstants as rule
+use Rattle.kv_table.specs.Rules as rule
 
 pub data Row : Type 0 where
   close : (i j : ℕ) → Row

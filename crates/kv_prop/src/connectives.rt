@@ -2,9 +2,9 @@
 
 ghost use Rattle.std.specs.Prelude.{map};
 ghost use Rattle.kv_sig.specs.Sequents.{in_place, two_in_place, at_end, without};
-ghost use Rattle.kv_syn.specs.Bridge.{plain_form};
-ghost use Rattle.kv_syn.specs.Same.{form_eq};
-ghost use Rattle.kv_syn.specs.Trees.{Form as Tree};
+ghost use Rattle.kv_trees.specs.Bridge.{plain_form};
+ghost use Rattle.kv_trees.specs.Same.{form_eq};
+ghost use Rattle.kv_trees.specs.Trees.{Form as Tree};
 ghost use Rattle.kv_syn.specs.declared.scripts.Side.TheVariants.{L, R};
 ghost use Rattle.kv_goal.specs.Goals.{plain_goal};
 ghost use Rattle.kv_prop.specs.Premises.{at_place, or_shape, as_false, as_true, as_not, as_and, as_or, as_imp, as_iff, one, two, nothing, Gives};

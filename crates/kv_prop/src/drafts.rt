@@ -3,8 +3,8 @@
 ghost use Rattle.std.specs.Prelude.{◌≡◌, ◌++◌, ◌≤◌, [], ◌∷◌, map, length, IfOk, OnOk};
 ghost use Rattle.kv_sig.specs.Places.{with_item, with_items, without_item};
 ghost use Rattle.kv_sig.specs.Sequents.{side_of, with_side, in_place, two_in_place, at_end, without};
-ghost use Rattle.kv_syn.specs.Bridge.{plain_form};
-ghost use Rattle.kv_syn.specs.Count.{form_nodes, form_depth, forms_nodes, forms_depth};
+ghost use Rattle.kv_trees.specs.Bridge.{plain_form};
+ghost use Rattle.kv_trees.specs.Count.{form_nodes, form_depth, forms_nodes, forms_depth};
 ghost use Rattle.kv_goal.specs.Goals.{plain_goal, plain_known};
 ghost use Rattle.kv_prop.specs.Drafts.{form_of, forms_of, part_of, draft_of};
 ghost use Rattle.kv_goal.specs.Measures.{Measures};
@@ -12,7 +12,7 @@ ghost use Rattle.kv_prop.specs.Premises.{fits, one, two, Gives};
 
 use crate::limits::fits;
 use crate::opening::Opening;
-use crate::replacing::{replaced, replaced_size};
+use crate::replacing::Replacing;
 use kv_goal::{Goal, Known, Size, form_size, term_size};
 use kv_sig::StepError;
 use kv_syn::{Form, List, NoMemory, Plain, Shared, Side, Term};
@@ -26,20 +26,20 @@ pub(crate) enum New<'a> {
     Equal(&'a Term, &'a Term),
     /// The body of a binder at the term.
     Opened(Opening<'a>),
-    /// The formula with the second term in place of the first one.
-    Replaced(&'a Term, &'a Term, &'a Form),
+    /// A formula with a term in place of another one.
+    Replaced(Replacing<'a>),
 }
 
 impl New<'_> {
-    fn size(&self) -> Result<Size, NoMemory>
-        ensures { IfOk result (λ size. Measures size (form_nodes (form_of self.now)) (form_depth (form_of self.now))) }
+    fn size(&self) -> Size
+        ensures { Measures result (form_nodes (form_of self.now)) (form_depth (form_of self.now)) }
     {
         match self {
-            New::Copied(form) => Ok(form_size(form)),
-            New::Imp(one, two) => Ok(Size::over(form_size(one.get()), form_size(two.get()))),
-            New::Equal(one, two) => Ok(Size::over(term_size(one), term_size(two))),
-            New::Opened(opening) => Ok(opening.size()),
-            New::Replaced(from, to, form) => replaced_size(from, to, form),
+            New::Copied(form) => form_size(form),
+            New::Imp(one, two) => Size::over(form_size(one.get()), form_size(two.get())),
+            New::Equal(one, two) => Size::over(term_size(one), term_size(two)),
+            New::Opened(opening) => opening.size(),
+            New::Replaced(replacing) => replacing.size(),
         }
     }
 
@@ -51,7 +51,7 @@ impl New<'_> {
             New::Imp(one, two) => Ok(Form::Imp(one.share()?, two.share()?)),
             New::Equal(one, two) => Ok(Form::Equal(one.copy(alloc)?, two.copy(alloc)?)),
             New::Opened(opening) => opening.form(alloc),
-            New::Replaced(from, to, form) => replaced(alloc, from, to, form),
+            New::Replaced(replacing) => replacing.form(alloc),
         }
     }
 }
@@ -138,13 +138,13 @@ impl<'a> Part<'a> {
     }
 
     #[tactic(auto, using(crate::proofs::Sums::nodes_of_both, crate::proofs::Sums::depth_of_both))]
-    fn size(&self) -> Result<Size, NoMemory>
-        ensures { IfOk result (λ size. Measures size (forms_nodes (part_of self.now)) (forms_depth (part_of self.now))) }
+    fn size(&self) -> Size
+        ensures { Measures result (forms_nodes (part_of self.now)) (forms_depth (part_of self.now)) }
     {
-        let first = new_size(&self.first)?;
-        let second = new_size(&self.second)?;
+        let first = new_size(&self.first);
+        let second = new_size(&self.second);
         let back = known_size(self.back);
-        Ok(known_size(self.front).and(first.and(second.and(back))))
+        known_size(self.front).and(first.and(second.and(back)))
     }
 
     fn built(&self, alloc: Global) -> Result<List<Shared<Known>>, NoMemory>
@@ -160,11 +160,11 @@ impl<'a> Part<'a> {
 }
 
 /// How large the new formula is, where there is one.
-fn new_size(new: &Option<New<'_>>) -> Result<Size, NoMemory>
-    ensures { IfOk result (λ size. Measures size (forms_nodes (forms_of new.now)) (forms_depth (forms_of new.now))) }
+fn new_size(new: &Option<New<'_>>) -> Size
+    ensures { Measures result (forms_nodes (forms_of new.now)) (forms_depth (forms_of new.now)) }
 {
     match new {
-        None => Ok(Size::none()),
+        None => Size::none(),
         Some(form) => form.size(),
     }
 }
@@ -271,12 +271,12 @@ impl<'a> Draft<'a> {
     }
 
     /// Whether the premise keeps the limits of a sequent.
-    fn fits(&self) -> Result<bool, NoMemory>
-        ensures { IfOk result (λ answer. answer ≡ fits (draft_of self.now)) }
+    fn fits(&self) -> bool
+        ensures { result ≡ fits (draft_of self.now) }
     {
-        let left = self.left.size()?;
-        let right = self.right.size()?;
-        Ok(fits(left.and(right)))
+        let left = self.left.size();
+        let right = self.right.size();
+        fits(left.and(right))
     }
 
     fn built(&self, alloc: Global) -> Result<Goal, NoMemory>
@@ -293,7 +293,7 @@ impl<'a> Draft<'a> {
 pub(crate) fn one(alloc: Global, premise: &Draft<'_>) -> Result<List<Goal>, StepError>
     ensures { Gives (map plain_goal) result (one (draft_of premise.now)) }
 {
-    if !premise.fits()? {
+    if !premise.fits() {
         return Err(StepError::Large);
     }
     let mut premises = List::new(alloc);
@@ -309,7 +309,7 @@ pub(crate) fn two(
 ) -> Result<List<Goal>, StepError>
     ensures { Gives (map plain_goal) result (two (draft_of first.now) (draft_of second.now)) }
 {
-    if !(first.fits()? && second.fits()?) {
+    if !(first.fits() && second.fits()) {
         return Err(StepError::Large);
     }
     let mut premises = List::new(alloc);

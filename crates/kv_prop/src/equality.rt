@@ -2,16 +2,16 @@
 
 ghost use Rattle.std.specs.Prelude.{◌≡◌, map};
 ghost use Rattle.kv_sig.specs.Sequents.{in_place};
-ghost use Rattle.kv_syn.specs.Bridge.{plain_term};
-ghost use Rattle.kv_syn.specs.Same.{term_eq};
-ghost use Rattle.kv_syn.specs.Trees.{Form as Tree};
+ghost use Rattle.kv_trees.specs.Bridge.{plain_term};
+ghost use Rattle.kv_trees.specs.Same.{term_eq};
+ghost use Rattle.kv_trees.specs.Trees.{Form as Tree};
 ghost use Rattle.kv_syn.specs.declared.scripts.Side.TheVariants.{L, R};
 ghost use Rattle.kv_goal.specs.Goals.{plain_goal};
 ghost use Rattle.kv_prop.specs.Premises.{at_place, elsewhere, is_left_place, or_shape, as_equal, changed, one, nothing, Gives};
 
 use crate::drafts::{Draft, New, one};
 use crate::places::at;
-use crate::replacing::stays;
+use crate::replacing::Replacing;
 use kv_goal::Goal;
 use kv_sig::StepError;
 use kv_syn::{Form, List, Plain, Side, Term};
@@ -71,10 +71,11 @@ pub(crate) fn replace(
     let Form::Equal(from, to) = equation else {
         return Err(StepError::Shape);
     };
-    if stays(from, to, form)? {
+    let replacing = Replacing::of(from, to, form)?;
+    if replacing.stays() {
         return Err(StepError::Shape);
     }
-    let new = New::Replaced(from, to, form);
+    let new = New::Replaced(replacing);
     one(alloc, &Draft::in_place(goal, side, place, new))
 }
 

@@ -1,6 +1,7 @@
 // How large a sequent may be.
 
-ghost use Rattle.std.specs.Prelude.{◌≡◌, ◌&&◌, nat_le};
+ghost use Rattle.std.specs.Prelude.{◌≡◌};
+ghost use Rattle.kv_prop.specs.Limits.{is_small};
 
 use kv_goal::Size;
 
@@ -12,7 +13,7 @@ pub const SEQUENT_DEPTH: u32 = 400;
 
 /// Whether a sequent of that size keeps the limits.
 pub(crate) fn fits(size: Size) -> bool
-    ensures { result ≡ (nat_le size.nodes SEQUENT_NODES && nat_le size.depth SEQUENT_DEPTH) }
+    ensures { result ≡ is_small size.nodes size.depth }
 {
     size.nodes <= SEQUENT_NODES && size.depth <= SEQUENT_DEPTH
 }

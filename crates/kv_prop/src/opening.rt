@@ -1,26 +1,27 @@
 // Bodies of binders at a term, and how large they would be.
 
-ghost use Rattle.std.specs.Prelude.{◌≡◌, ◌+◌, ◌-◌, ◌^◌, ◌<◌, ◌≤◌, IfOk, IsTrue, MatchOption, true, false};
-ghost use Rattle.kv_syn.specs.Bridge.{plain_term, plain_terms, plain_form, plain_prog};
-ghost use Rattle.kv_syn.specs.Count.{term_nodes, terms_nodes, form_nodes, prog_nodes, term_depth, terms_depth, form_depth, prog_depth};
-ghost use Rattle.kv_syn.specs.Variables.{form_binders, prog_binders};
+ghost use Rattle.std.specs.Prelude.{◌≡◌, ◌↔◌, ◌+◌, ◌-◌, ◌^◌, ◌<◌, ◌≤◌, IfOk, IsOk, IsTrue, MatchOption, true, false};
+ghost use Rattle.kv_trees.specs.Bridge.{plain_term, plain_terms, plain_form, plain_prog};
+ghost use Rattle.kv_trees.specs.Count.{term_nodes, terms_nodes, form_nodes, prog_nodes, term_depth, terms_depth, form_depth, prog_depth};
+ghost use Rattle.kv_trees.specs.Variables.{form_binders, prog_binders};
 ghost use Rattle.kv_subst.specs.Changing.{changed_term, changed_terms, changed_form, changed_prog};
 ghost use Rattle.kv_subst.specs.Opening.{opened, is_admissible};
 ghost use Rattle.kv_subst.specs.Sizes.{term_reach, terms_reach};
 ghost use Rattle.kv_goal.specs.Measures.{Measures};
+ghost use Rattle.kv_prop.specs.Shallow.{IsShallow};
 
 use kv_goal::{Size, term_size};
 use kv_subst::form_opened;
 use kv_syn::{Form, List, NoMemory, Prog, Ref, Shared, Term};
 use std::alloc::Global;
 
-/// Trees that stand below so many binders, or count so many, aren't handled. They don't fit into memory.
+/// Trees that are deeper, or count more binders around them, aren't handled. They don't fit into memory.
 const MOST_BINDERS: u32 = 2_000_000_000;
 
 /// Whether the numbers in the term go no further than that.
 #[cycle(term_within)]
 fn term_within(term: &Term, most: u32) -> bool
-    ensures { IsTrue result → term_reach (plain_term term.now) ≤ most }
+    ensures { IsTrue result ↔ (term_reach (plain_term term.now) ≤ most) }
 {
     match term {
         Term::Place(Ref::Free(_)) => true,
@@ -31,7 +32,7 @@ fn term_within(term: &Term, most: u32) -> bool
 
 #[cycle(term_within)]
 fn terms_within(terms: &[Term], most: u32) -> bool
-    ensures { IsTrue result → terms_reach (plain_terms terms.now) ≤ most }
+    ensures { IsTrue result ↔ (terms_reach (plain_terms terms.now) ≤ most) }
 {
     for term in terms {
         if !term_within(term, most) {
@@ -42,9 +43,10 @@ fn terms_within(terms: &[Term], most: u32) -> bool
 }
 
 /// Whether the term can be put below the binders of the formula with no number past 2^32 - 2.
-#[tactic(auto, using(kv_syn::proofs::Depths::form_within))]
+#[tactic(auto, using(kv_trees::proofs::Depths::form_within))]
 pub(crate) fn are_shallow(form: &Form, term: &Term) -> bool
-    ensures { IsTrue result → form_binders (plain_form form.now) + term_reach (plain_term term.now) < 2 ^ 32 - 1 }
+    ensures exact { IsTrue result ↔ IsShallow (plain_form form.now) (plain_term term.now) }
+    ensures within { IsTrue result → form_binders (plain_form form.now) + term_reach (plain_term term.now) < 2 ^ 32 - 1 }
 {
     form.depth() <= MOST_BINDERS && term_within(term, MOST_BINDERS)
 }
@@ -58,9 +60,10 @@ pub(crate) struct Opening<'a> {
 }
 
 impl<'a> Opening<'a> {
-    /// The body with the term, where it may be opened there. Want of memory where the body is too deep.
+    /// The body with the term, where it may be opened there. Want of memory exactly where body and term aren't shallow.
     pub fn of(body: &'a Form, at: &'a Term) -> Result<Option<Opening<'a>>, NoMemory>
-        ensures { IfOk result (λ answer. MatchOption answer (is_admissible (plain_form body.now) (plain_term at.now) ≡ false) (λ opening. (is_admissible (plain_form body.now) (plain_term at.now) ≡ true) × (opening.body.now ≡ body.now) × (opening.at.now ≡ at.now))) }
+        ensures answer { IfOk result (λ answer. MatchOption answer (is_admissible (plain_form body.now) (plain_term at.now) ≡ false) (λ opening. (is_admissible (plain_form body.now) (plain_term at.now) ≡ true) × (opening.body.now ≡ body.now) × (opening.at.now ≡ at.now))) }
+        ensures shallow { IsOk result ↔ IsShallow (plain_form body.now) (plain_term at.now) }
     {
         if !are_shallow(body, at) {
             return Err(NoMemory);

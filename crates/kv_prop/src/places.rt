@@ -4,8 +4,8 @@ ghost use Rattle.std.specs.Prelude.{◌≡◌, ◌≤◌, Some, None, length, If
 ghost use Rattle.kv_sig.specs.Places.{item_at};
 ghost use Rattle.kv_sig.specs.Sequents.{side_of};
 ghost use Rattle.kv_sig.specs.declared.refusals.StepError.{StepError};
-ghost use Rattle.kv_syn.specs.Bridge.{plain_form};
-ghost use Rattle.kv_syn.specs.Same.{form_eq};
+ghost use Rattle.kv_trees.specs.Bridge.{plain_form};
+ghost use Rattle.kv_trees.specs.Same.{form_eq};
 ghost use Rattle.kv_goal.specs.Goals.{plain_goal};
 
 use kv_goal::Goal;

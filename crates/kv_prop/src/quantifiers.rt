@@ -1,13 +1,14 @@
 // The rules for quantifiers.
 
-ghost use Rattle.std.specs.Prelude.{◌≡◌, map, IfOk};
+ghost use Rattle.std.specs.Prelude.{◌≡◌, ◌≤◌, length, map, IfOk};
 ghost use Rattle.std.specs.Option.{option_copied};
-ghost use Rattle.kv_sig.specs.Sequents.{in_place, at_end};
+ghost use Rattle.kv_sig.specs.Sequents.{in_place, at_end, side_of};
 ghost use Rattle.kv_sig.specs.Views.{view_of};
-ghost use Rattle.kv_syn.specs.Bridge.{plain_term, plain_form};
+ghost use Rattle.kv_trees.specs.Bridge.{plain_term, plain_form};
 ghost use Rattle.kv_syn.specs.declared.scripts.Side.TheVariants.{L, R};
 ghost use Rattle.kv_goal.specs.Goals.{plain_goal};
-ghost use Rattle.kv_prop.specs.Premises.{at_place, as_all, as_ex, at_new, at_term, sort_of, variable, one, Gives};
+ghost use Rattle.kv_prop.specs.Premises.{at_place, as_all, as_ex, at_new, at_term, sort_of, one, Gives};
+ghost use Rattle.kv_trees.specs.Variables.{variable};
 
 use crate::drafts::{Draft, New, one};
 use crate::fresh::is_fresh;
@@ -31,17 +32,7 @@ pub(crate) fn all_right(
     let Form::All(sort, body) = at(goal, Side::R, place)? else {
         return Err(StepError::Shape);
     };
-    if !is_fresh(env, goal, name) {
-        return Err(StepError::NotFresh {
-            name: name.copy(alloc)?,
-        });
-    }
-    let term = variable(alloc, name, sort)?;
-    let Some(opening) = Opening::of(body.get(), &term)? else {
-        return Err(StepError::Captured);
-    };
-    let new = New::Opened(opening);
-    one(alloc, &Draft::in_place(goal, Side::R, place, new))
+    at_new(alloc, env, goal, Side::R, place, sort, body.get(), name)
 }
 
 /// `exL i as x`: of an existential formula on the left its body is assumed at a new variable, in its place.
@@ -57,17 +48,37 @@ pub(crate) fn ex_left(
     let Form::Ex(sort, body) = at(goal, Side::L, place)? else {
         return Err(StepError::Shape);
     };
+    at_new(alloc, env, goal, Side::L, place, sort, body.get(), name)
+}
+
+/// The body of a quantifier of that sort at a new variable, in its place.
+fn at_new(
+    alloc: Global,
+    env: &Env<'_>,
+    goal: &Goal,
+    side: Side,
+    place: u32,
+    sort: &Name,
+    body: &Form,
+    name: &Name,
+) -> Result<List<Goal>, StepError>
+    requires low { 1 ≤ place }
+    requires high { place ≤ length (side_of side (plain_goal goal.now)) }
+    ensures { Gives (map plain_goal) result (at_new (view_of env.now.flat.now) (plain_goal goal.now) name.now sort.now (plain_form body.now) (λ b. one (in_place side place b (plain_goal goal.now)))) }
+{
     if !is_fresh(env, goal, name) {
         return Err(StepError::NotFresh {
             name: name.copy(alloc)?,
         });
     }
     let term = variable(alloc, name, sort)?;
-    let Some(opening) = Opening::of(body.get(), &term)? else {
+    let Some(opening) = Opening::of(body, &term)? else {
         return Err(StepError::Captured);
     };
-    let new = New::Opened(opening);
-    one(alloc, &Draft::in_place(goal, Side::L, place, new))
+    one(
+        alloc,
+        &Draft::in_place(goal, side, place, New::Opened(opening)),
+    )
 }
 
 fn variable(alloc: Global, name: &Name, sort: &Name) -> Result<Term, NoMemory>

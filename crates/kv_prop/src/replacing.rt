@@ -1,14 +1,15 @@
 // A term in place of another one: whether that changes a formula, how large it would be, and the formula.
 
-ghost use Rattle.std.specs.Prelude.{◌≡◌, ◌+◌, ◌-◌, ◌^◌, ◌<◌, if◌then◌else◌, IfOk};
-ghost use Rattle.kv_syn.specs.Bridge.{plain_term, plain_terms, plain_form, plain_prog};
-ghost use Rattle.kv_syn.specs.Count.{term_nodes, terms_nodes, form_nodes, term_depth, terms_depth, form_depth};
-ghost use Rattle.kv_syn.specs.Same.{ref_eq, term_eq, terms_eq, form_eq};
-ghost use Rattle.kv_syn.specs.Variables.{raised_ref, form_binders, prog_binders};
+ghost use Rattle.std.specs.Prelude.{◌≡◌, ◌↔◌, ◌+◌, ◌-◌, ◌^◌, ◌<◌, if◌then◌else◌, IfOk, IsOk};
+ghost use Rattle.kv_trees.specs.Bridge.{plain_term, plain_terms, plain_form, plain_prog};
+ghost use Rattle.kv_trees.specs.Count.{term_nodes, terms_nodes, form_nodes, term_depth, terms_depth, form_depth};
+ghost use Rattle.kv_trees.specs.Same.{ref_eq, term_eq, terms_eq, form_eq};
+ghost use Rattle.kv_trees.specs.Variables.{raised_ref, form_binders, prog_binders};
 ghost use Rattle.kv_subst.specs.Opening.{raised_term, raised_terms};
 ghost use Rattle.kv_subst.specs.Sizes.{term_reach};
 ghost use Rattle.kv_goal.specs.Measures.{Measures};
 ghost use Rattle.kv_prop.specs.Replacing.{replaced_term, replaced_terms, replaced_form, touches};
+ghost use Rattle.kv_prop.specs.Shallow.{IsShallow};
 
 use crate::opening::{Counted, are_shallow};
 use kv_goal::{Size, form_size, prog_size};
@@ -17,34 +18,50 @@ use kv_subst::term_raised;
 use kv_syn::{Form, List, NoMemory, Plain, Prog, Ref, Shared, Term, is_var, modifies_any};
 use std::alloc::Global;
 
-/// Whether the second term in place of the first one leaves the formula as it is.
-pub(crate) fn stays(from: &Term, to: &Term, form: &Form) -> Result<bool, NoMemory>
-    ensures { IfOk result (λ answer. answer ≡ form_eq (replaced_form (plain_term from.now) (plain_term to.now) 0 (plain_form form.now)) (plain_form form.now)) }
-{
-    if !are_shallow(form, to) {
-        return Err(NoMemory);
-    }
-    Ok(form_stays(form, from, to, 0))
+/// A formula, and a term that is to come in place of another one. The numbers of the term can be raised by the binders
+/// of the formula.
+#[derive(Clone, Copy)]
+pub(crate) struct Replacing<'a> {
+    pub from: &'a Term,
+    pub to: &'a Term,
+    pub form: &'a Form,
+    ghost shallow: { form_binders (plain_form form.now) + term_reach (plain_term to.now) < 2 ^ 32 - 1 },
 }
 
-/// How large the formula is with the second term in place of the first one.
-pub(crate) fn replaced_size(from: &Term, to: &Term, form: &Form) -> Result<Size, NoMemory>
-    ensures { IfOk result (λ size. Measures size (form_nodes (replaced_form (plain_term from.now) (plain_term to.now) 0 (plain_form form.now))) (form_depth (replaced_form (plain_term from.now) (plain_term to.now) 0 (plain_form form.now)))) }
-{
-    if !are_shallow(form, to) {
-        return Err(NoMemory);
+impl<'a> Replacing<'a> {
+    /// The second term for the first one in the formula. Want of memory exactly where formula and second term aren't
+    /// shallow.
+    pub fn of(from: &'a Term, to: &'a Term, form: &'a Form) -> Result<Replacing<'a>, NoMemory>
+        ensures answer { IfOk result (λ replacing. (replacing.from.now ≡ from.now) × (replacing.to.now ≡ to.now) × (replacing.form.now ≡ form.now)) }
+        ensures shallow { IsOk result ↔ IsShallow (plain_form form.now) (plain_term to.now) }
+    {
+        if are_shallow(form, to) {
+            Ok(Replacing { from, to, form })
+        } else {
+            Err(NoMemory)
+        }
     }
-    Ok(form_replaced_size(form, from, &Counted::of(to), 0))
-}
 
-/// The formula with the second term in place of the first one.
-pub(crate) fn replaced(alloc: Global, from: &Term, to: &Term, form: &Form) -> Result<Form, NoMemory>
-    ensures { IfOk result (λ f. plain_form f ≡ replaced_form (plain_term from.now) (plain_term to.now) 0 (plain_form form.now)) }
-{
-    if !are_shallow(form, to) {
-        return Err(NoMemory);
+    /// Whether it leaves the formula as it is.
+    pub fn stays(&self) -> bool
+        ensures { result ≡ form_eq (replaced_form (plain_term self.now.from.now) (plain_term self.now.to.now) 0 (plain_form self.now.form.now)) (plain_form self.now.form.now) }
+    {
+        form_stays(self.form, self.from, self.to, 0)
     }
-    form_replaced(alloc, form, from, to, 0)
+
+    /// How large the formula becomes.
+    pub fn size(&self) -> Size
+        ensures { Measures result (form_nodes (replaced_form (plain_term self.now.from.now) (plain_term self.now.to.now) 0 (plain_form self.now.form.now))) (form_depth (replaced_form (plain_term self.now.from.now) (plain_term self.now.to.now) 0 (plain_form self.now.form.now))) }
+    {
+        form_replaced_size(self.form, self.from, &Counted::of(self.to), 0)
+    }
+
+    /// The formula that it becomes.
+    pub fn form(&self, alloc: Global) -> Result<Form, NoMemory>
+        ensures { IfOk result (λ form. plain_form form ≡ replaced_form (plain_term self.now.from.now) (plain_term self.now.to.now) 0 (plain_form self.now.form.now)) }
+    {
+        form_replaced(alloc, self.form, self.from, self.to, 0)
+    }
 }
 
 // ---- equal places
@@ -100,7 +117,7 @@ fn touches(prog: &Prog, from: &Term, to: &Term, depth: u32) -> bool
 // ---- whether something changes
 
 #[cycle(term_stays)]
-#[tactic(auto, using(crate::proofs::Raised::stays_here, kv_syn::proofs::Same::ref_same, kv_syn::proofs::Same::name_same))]
+#[tactic(auto, using(crate::proofs::Raised::stays_here, kv_trees::proofs::Same::ref_same, kv_trees::proofs::Same::name_same))]
 fn term_stays(term: &Term, from: &Term, to: &Term, depth: u32) -> bool
     ensures { result ≡ term_eq (replaced_term (raised_term depth (plain_term from.now)) (raised_term depth (plain_term to.now)) (plain_term term.now)) (plain_term term.now) }
 {
@@ -126,7 +143,7 @@ fn terms_stay(terms: &[Term], from: &Term, to: &Term, depth: u32) -> bool
 }
 
 #[cycle(form_stays)]
-#[tactic(auto, using(kv_syn::proofs::Same::name_same))]
+#[tactic(auto, using(kv_trees::proofs::Same::name_same))]
 fn form_stays(form: &Form, from: &Term, to: &Term, depth: u32) -> bool
     requires { form_binders (plain_form form.now) + depth < 2 ^ 32 }
     ensures { result ≡ form_eq (replaced_form (plain_term from.now) (plain_term to.now) depth (plain_form form.now)) (plain_form form.now) }
@@ -159,7 +176,7 @@ fn form_stays(form: &Form, from: &Term, to: &Term, depth: u32) -> bool
 
 /// The same of a formula behind a program, which touches one of the terms or not.
 #[cycle(form_stays)]
-#[tactic(auto, using(kv_syn::proofs::Same::form_same))]
+#[tactic(auto, using(kv_trees::proofs::Same::form_same))]
 fn behind_stays(form: &Form, touched: bool, from: &Term, to: &Term, depth: u32) -> bool
     requires { form_binders (plain_form form.now) + depth < 2 ^ 32 }
     ensures { result ≡ form_eq (if touched then plain_form form.now else replaced_form (plain_term from.now) (plain_term to.now) depth (plain_form form.now)) (plain_form form.now) }

@@ -3,7 +3,7 @@
 ghost use Rattle.std.specs.Prelude.{◌≡◌, map, IfOk, None};
 ghost use Rattle.kv_sig.specs.Steps.{plain_typed_step, plain_typed_text};
 ghost use Rattle.kv_sig.specs.Views.{View, view_of};
-ghost use Rattle.kv_syn.specs.Bridge.{plain_form, plain_sequent, plain_term};
+ghost use Rattle.kv_trees.specs.Bridge.{plain_form, plain_sequent, plain_term};
 ghost use Rattle.kv_goal.specs.Goals.{plain_goal};
 ghost use Rattle.kv_prop.specs.Premises.{premises, premises_of, Gives};
 ghost use Rattle.kv_prop.specs.Rows.{Row, beside, number_rows, name_rows, term_rows, row_where, row_on};
@@ -22,7 +22,8 @@ use std::alloc::Global;
 /// equation; `Shape` where a formula isn't of the rule's form, or a rewriting would change nothing; `Sort` where a term
 /// has another sort than the quantifier; `NoLabel` where no entry has the label; `NotFresh` where the new name isn't
 /// new; `Captured` where a variable of the term would be captured; `Large` where a premise passes a limit of a sequent.
-/// `NoMemory` comes also where more than 2,000,000,000 binders stand in one another.
+/// `NoMemory` comes also where a formula that a term is put into is deeper than 2,000,000,000, or the term counts more
+/// binders around it.
 pub fn apply(
     alloc: Global,
     env: &Env<'_>,

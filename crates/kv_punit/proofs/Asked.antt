@@ -9,10 +9,10 @@ use Rattle.kv_pexpr.specs.declared.errors.ReadError.TheVariants as reader
 use Rattle.kv_pexpr.proofs.Steps.{some_is, given_some, name_some}
 use Rattle.kv_syn.specs.Projects.{Theorem, Proof}
 use Rattle.kv_syn.specs.Projects as P
-use Rattle.kv_syn.specs.Trees.{Name}
+use Rattle.kv_names.specs.Names.{Name}
 use Rattle.kv_table.specs.Names.{row_of}
-use Rattle.kv_table.specs.Tables.{command_rows}
-use Rattle.kv_table.specs.declared.command.TheConstants as command
+use Rattle.kv_table.specs.Commands.{command_rows}
+use Rattle.kv_table.specs.Commands as command
 use Rattle.kv_punit.specs.Commands.{Command}
 use Rattle.kv_punit.specs.Gives.{Finds}
 use Rattle.kv_punit.specs.Grammar as g

@@ -1,12 +1,12 @@
 -- What an answer of a reader says of the steps before it.
 use Rattle.std.proofs.Common.{ℕ, ◌≡◌, List, [], ◌∷◌, refl, subst, inl, inr}
 use Rattle.std.specs.Prelude.{Bool, true, false, cond, Option, Some, None, ◌⊎◌, codes}
-use Rattle.kv_lex.specs.declared.mark.TheConstants.{COLON, DOT}
+use Rattle.kv_lex.specs.Marks.{COLON, DOT}
 use Rattle.kv_lex.specs.declared.token.TokenKind.{TokenKind}
 use Rattle.kv_lex.specs.declared.token.TokenKind.TheVariants.{Word, Ident, Number, Mark}
 use Rattle.kv_pexpr.specs.Parse.{or_stay, eat_mark}
 use Rattle.kv_pexpr.proofs.Steps.{some_is, stay_or, mark_some}
-use Rattle.kv_syn.specs.Trees.{Name}
+use Rattle.kv_names.specs.Names.{Name}
 use Rattle.kv_punit.specs.Parse.{eat_number, separator, colon, dot}
 
 pub number_some : (ts : List TokenKind) (r : ℕ × List TokenKind) → eat_number ts ≡ Some r → ts ≡ Number r.0 ∷ r.1

@@ -1,18 +1,18 @@
 -- What is in the grammar, the readers compute.
 use Rattle.std.proofs.Common.{ℕ, zero, suc, ◌≡◌, ◌≤◌, ◌<◌, List, [], ◌∷◌, ◌++◌, length, refl, ap, ◌∙◌, sym, arith, append_assoc, append-nil}
 use Rattle.std.specs.Prelude.{Some, None, codes}
-use Rattle.kv_lex.specs.declared.mark.TheConstants.{OPEN_BRACE, CLOSE_BRACE, SEMICOLON, COLON, DOT, BAR}
+use Rattle.kv_lex.specs.Marks.{OPEN_BRACE, CLOSE_BRACE, SEMICOLON, COLON, DOT, BAR}
 use Rattle.kv_lex.specs.declared.token.TokenKind.{TokenKind}
 use Rattle.kv_lex.specs.declared.token.TokenKind.TheVariants.{Word, Ident, Mark}
 use Rattle.kv_pexpr.specs.Grammar.{Stops}
 use Rattle.kv_pexpr.specs.Parse.{eat_mark, eat_word}
 use Rattle.kv_pexpr.proofs.Steps.{given_some}
-use Rattle.kv_syn.specs.Trees.{Name}
+use Rattle.kv_names.specs.Names.{Name}
 use Rattle.kv_syn.specs.Scripts.{Step, Script, Scripts}
 use Rattle.kv_syn.specs.ScriptBridge.{scripts_of}
 use Rattle.kv_syn.specs.Projects.{Proof, Item}
 use Rattle.kv_syn.specs.Projects as P
-use Rattle.kv_table.specs.declared.keyword.TheConstants as word
+use Rattle.kv_table.specs.Keywords as word
 use Rattle.kv_punit.specs.Grammar as g
 use Rattle.kv_punit.specs.Grammar.{IsStep, IsScript, AreScripts, IsLabel, AreItems, IsLabelled, IsProof, IsHead}
 use Rattle.kv_punit.specs.Parse as spec

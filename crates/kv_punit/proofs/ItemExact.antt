@@ -1,14 +1,14 @@
 -- The items that are in the grammar, the readers compute.
 use Rattle.std.proofs.Common.{ℕ, zero, suc, ◌≡◌, ◌≤◌, ◌<◌, List, [], ◌∷◌, ◌++◌, length, refl, ap, ◌∙◌, arith, append_assoc}
 use Rattle.std.specs.Prelude.{true, false, Some, None}
-use Rattle.kv_lex.specs.declared.mark.TheConstants.{COMMA, SEMICOLON, COLON}
+use Rattle.kv_lex.specs.Marks.{COMMA, SEMICOLON, COLON}
 use Rattle.kv_lex.specs.declared.token.TokenKind.{TokenKind}
 use Rattle.kv_lex.specs.declared.token.TokenKind.TheVariants.{Word, Ident, Mark}
 use Rattle.kv_pexpr.specs.Parse.{Read, given, eat_mark, eat_name}
-use Rattle.kv_syn.specs.Trees.{Name}
+use Rattle.kv_names.specs.Names.{Name}
 use Rattle.kv_syn.specs.Projects.{Item}
-use Rattle.kv_syn.specs.declared.symbols.Var.{Var}
-use Rattle.kv_table.specs.declared.keyword.TheConstants as word
+use Rattle.kv_names.specs.declared.symbols.Var.{Var}
+use Rattle.kv_table.specs.Keywords as word
 use Rattle.kv_punit.specs.Grammar as g
 use Rattle.kv_punit.specs.Grammar.{IsName, IsParameter, Listed, AreNames, AreParameters, IsDeclaration, IsItem}
 use Rattle.kv_punit.specs.Parse as spec

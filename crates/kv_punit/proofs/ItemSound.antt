@@ -1,15 +1,15 @@
 -- What the readers of items compute is in the grammar.
 use Rattle.std.proofs.Common.{ℕ, zero, suc, ◌≡◌, refl, List, [], ◌∷◌, ◌++◌, length, ap, ◌∙◌, sym, subst, inl, inr, append_assoc}
 use Rattle.std.specs.Prelude.{Bool, true, false, Option, Some, None, ◌⊎◌, cond, ◌==◌}
-use Rattle.kv_lex.specs.declared.mark.TheConstants.{OPEN, CLOSE, COMMA, SEMICOLON, COLON, ARROW}
+use Rattle.kv_lex.specs.Marks.{OPEN, CLOSE, COMMA, SEMICOLON, COLON, ARROW}
 use Rattle.kv_lex.specs.declared.token.TokenKind.{TokenKind}
 use Rattle.kv_lex.specs.declared.token.TokenKind.TheVariants.{Word, Ident, Number, Mark}
 use Rattle.kv_pexpr.specs.Parse.{Read, given, or_stay, eat_mark, eat_name}
 use Rattle.kv_pexpr.proofs.Steps.{some_is, given_some, stay_or, chosen, if_some, mark_some, name_some}
-use Rattle.kv_syn.specs.Trees.{Name}
+use Rattle.kv_names.specs.Names.{Name}
 use Rattle.kv_syn.specs.Projects.{Item}
-use Rattle.kv_syn.specs.declared.symbols.Var.{Var}
-use Rattle.kv_table.specs.declared.keyword.TheConstants as word
+use Rattle.kv_names.specs.declared.symbols.Var.{Var}
+use Rattle.kv_table.specs.Keywords as word
 use Rattle.kv_punit.specs.declared.items.Declares.{Declares}
 use Rattle.kv_punit.specs.declared.items.Declares.TheVariants as declare
 use Rattle.kv_punit.specs.Grammar as g

@@ -21,3 +21,5 @@ pub mod Alone
 pub mod Asked
 pub mod Lone
 pub mod Theorems
+pub mod Told
+pub mod First

@@ -17,7 +17,9 @@ use Rattle.kv_punit.specs.declared.commands.Command as code
 use Rattle.kv_punit.specs.Errors.{of_reader, of_lexer}
 use Rattle.kv_punit.specs.Gives.{Finds}
 use Rattle.kv_punit.specs.Grammar.{IsCommand}
-use Rattle.kv_punit.specs.Readings.{Answers, IsLoneHead, IsLoneScript, IsOne, Limits, Spells}
+use Rattle.kv_punit.specs.Readings.{IsLoneHead, IsLoneScript, IsOne, Spells}
+use Rattle.kv_punit.specs.Settles.{Limits}
+use Rattle.kv_punit.proofs.Told.{Tells}
 use Rattle.kv_punit.specs.ReadsAs.{IsRefused}
 use Rattle.kv_punit.specs.declared.errors.TextError.{TextError}
 use Rattle.kv_punit.specs.declared.errors.TextError.TheVariants as error
@@ -29,24 +31,24 @@ use Rattle.kv_punit.proofs.One.{one_head}
 use Rattle.kv_pexpr.proofs.Steps.{some_is}
 
 module _ {X Y : Type 0} (Is : List TokenKind → Y → Type 0) (Keeps : Y → Type 0) (view : X → Y) (text : List ℕ) where
-  pub lexer_error : (e : LexError) → lex.Gives (Err e) (lexed text) → Answers Is Keeps view text (Err (of_lexer e))
+  pub lexer_error : (e : LexError) → lex.Gives (Err e) (lexed text) → Tells Is Keeps view text (Err (of_lexer e))
   lexer_error (fault.Token place) gives = gives
   lexer_error fault.NoMemory gives = tt
 
-  pub reader_error : (tokens : List Token) (e : ReadError) → lexed text ≡ Ok tokens → Finds view (Is (kinds tokens)) (Err e) → Answers Is Keeps view text (Err (of_reader e))
+  pub reader_error : (tokens : List Token) (e : ReadError) → lexed text ≡ Ok tokens → Finds view (Is (kinds tokens)) (Err e) → Tells Is Keeps view text (Err (of_reader e))
   reader_error tokens reader.Syntax is none = (tokens, is, none)
   reader_error tokens reader.NoMemory is none = tt
 
-  pub too_many : (tokens : List Token) (x : X) → lexed text ≡ Ok tokens → Is (kinds tokens) (view x) → (Keeps (view x) → ⊥) → Answers Is Keeps view text (Err (error.Limit Steps))
+  pub too_many : (tokens : List Token) (x : X) → lexed text ≡ Ok tokens → Is (kinds tokens) (view x) → (Keeps (view x) → ⊥) → Tells Is Keeps view text (Err (error.Limit Steps))
   too_many tokens x is spelt many = (tokens, is, (view x, spelt, many))
 
-  pub found : (tokens : List Token) (x : X) → lexed text ≡ Ok tokens → Is (kinds tokens) (view x) → Keeps (view x) → Answers Is Keeps view text (Ok x)
+  pub found : (tokens : List Token) (x : X) → lexed text ≡ Ok tokens → Is (kinds tokens) (view x) → Keeps (view x) → Tells Is Keeps view text (Ok x)
   found tokens x is spelt few = record { tokens = tokens; lexes = is; spelt = spelt; few_steps = few }
 
-  pub handed_on : (r : Result X TextError) (e y : TextError) → Answers Is Keeps view text (Err e) → r ≡ Err y → y ≡ e → Answers Is Keeps view text r
-  handed_on r e y is same to = subst (Answers Is Keeps view text) (sym (same ∙ ap (λ x. Err x) to)) is
+  pub handed_on : (r : Result X TextError) (e y : TextError) → Tells Is Keeps view text (Err e) → r ≡ Err y → y ≡ e → Tells Is Keeps view text r
+  handed_on r e y is same to = subst (Tells Is Keeps view text) (sym (same ∙ ap (λ x. Err x) to)) is
 
-  pub read_of : (r : Result X TextError) → Answers Is Keeps view text r → IfOk r (λ x. Spells Is Keeps text (view x))
+  pub read_of : (r : Result X TextError) → Tells Is Keeps view text r → IfOk r (λ x. Spells Is Keeps text (view x))
   read_of (Ok x) is = is
   read_of (Err e) is = tt
 
@@ -57,7 +59,7 @@ module _ {X Y : Type 0} (Is : List TokenKind → Y → Type 0) (Keeps : Y → Ty
   spelt_by y tokens is r = subst (λ x. Is (kinds x) y) (same_tokens is r) r.spelt
 
   module _ (one : (ts : List TokenKind) (x y : Y) → Is ts x → Is ts y → x ≡ y) where
-    pub refused : (r : Result X TextError) → Answers Is Keeps view text r → IsRefused r → (y : Y) → Spells Is Keeps text y → ⊥
+    pub refused : (r : Result X TextError) → Tells Is Keeps view text r → IsRefused r → (y : Y) → Spells Is Keeps text y → ⊥
     refused (Ok x) is told y reads = told
     refused (Err (error.Token place)) is told y reads = absurd (let e = reads.lexes in cc)
     refused (Err error.Syntax) is told y reads = is.2 y (spelt_by y is.0 is.1 reads)
@@ -84,10 +86,10 @@ one_command ts x y r s = asked.one_command r s
 
 -- a command that the tokens spell, behind its limit
 pub limited : (text : List ℕ) (tokens : List Token) (command : code.Command) (result : Result code.Command TextError) → lexed text ≡ Ok tokens → IsCommand (kinds tokens) (plain_command command)
-    → has_readable_unit command ≡ true → Limits command result → Answers IsCommand HasShortScript plain_command text result × IfOk result (λ c. has_readable_unit c ≡ true)
+    → has_readable_unit command ≡ true → Limits command result → Tells IsCommand HasShortScript plain_command text result × IfOk result (λ c. has_readable_unit c ≡ true)
 limited text tokens command (Ok same) lexes spelt readable (is, few) = (
-  subst (λ c. Answers IsCommand HasShortScript plain_command text (Ok c)) (sym is) (found IsCommand HasShortScript plain_command text tokens command lexes spelt few),
+  subst (λ c. Tells IsCommand HasShortScript plain_command text (Ok c)) (sym is) (found IsCommand HasShortScript plain_command text tokens command lexes spelt few),
   subst (λ c. has_readable_unit c ≡ true) (sym is) readable,
 )
 limited text tokens command (Err fault) lexes spelt readable (is, many) =
-    (subst (λ f. Answers {X = code.Command} IsCommand HasShortScript plain_command text (Err f)) (sym is) (too_many IsCommand HasShortScript plain_command text tokens command lexes spelt many), tt)
+    (subst (λ f. Tells {X = code.Command} IsCommand HasShortScript plain_command text (Err f)) (sym is) (too_many IsCommand HasShortScript plain_command text tokens command lexes spelt many), tt)

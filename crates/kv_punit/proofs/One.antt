@@ -8,7 +8,7 @@ use Rattle.kv_pexpr.proofs.One as forms
 use Rattle.kv_pexpr.proofs.Steps.{some_is}
 use Rattle.kv_syn.specs.Projects.{Theorem, Proof}
 use Rattle.kv_syn.specs.Projects as P
-use Rattle.kv_table.specs.declared.keyword.TheConstants as word
+use Rattle.kv_table.specs.Keywords as word
 use Rattle.kv_punit.specs.Grammar as g
 use Rattle.kv_punit.specs.Grammar.{IsStatement, IsTheorem, IsLabelled, IsProof, AreTheorems, AreProofs, IsHead, IsUnit, AreUnits, IsProject}
 use Rattle.kv_punit.specs.ReadsAs.{OneSpelling}

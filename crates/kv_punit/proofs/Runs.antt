@@ -9,7 +9,7 @@ use Rattle.kv_pexpr.specs.Parse.{eat_word}
 use Rattle.kv_pexpr.specs.declared.errors.ReadError.{ReadError}
 use Rattle.kv_pexpr.specs.declared.errors.ReadError.TheVariants as reader
 use Rattle.kv_pexpr.proofs.Sound.{form_takes}
-use Rattle.kv_syn.specs.Trees.{Name}
+use Rattle.kv_names.specs.Names.{Name}
 use Rattle.kv_syn.specs.Projects.{Theorem, Proof, Item}
 use Rattle.kv_syn.specs.Projects as P
 use Rattle.kv_punit.specs.Ends.{NoTheorem, NoProof, Ends, AllTheorems, AllProofs, WholeUnit}

@@ -6,7 +6,7 @@ use Rattle.kv_syn.specs.Projects as P
 use Rattle.kv_syn.specs.declared.projects.Project.{Project}
 use Rattle.kv_punit.specs.Grammar.{AreUnits}
 use Rattle.kv_punit.specs.Limits.{IsWellformed}
-use Rattle.kv_punit.specs.ReadsAs.{Settles}
+use Rattle.kv_punit.specs.Settles.{Settles}
 use Rattle.kv_punit.specs.declared.errors.TextError.{TextError}
 use Rattle.kv_punit.specs.declared.errors.TextError.TheVariants as error
 use Rattle.kv_punit.specs.declared.errors.Which.TheVariants.{Steps, Units, Theorems}

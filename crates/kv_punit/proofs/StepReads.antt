@@ -8,13 +8,13 @@ use Rattle.kv_lex.specs.declared.token.TokenKind.TheVariants.{Word, Ident, Numbe
 use Rattle.kv_pexpr.specs.Grammar.{Stops}
 use Rattle.kv_pexpr.specs.Parse.{given, eat_word, eat_name}
 use Rattle.kv_pexpr.proofs.Steps.{some_is, given_some, word_some, name_some}
-use Rattle.kv_syn.specs.Trees.{Name}
+use Rattle.kv_names.specs.Names.{Name}
 use Rattle.kv_syn.specs.Scripts.{Step}
 use Rattle.kv_syn.specs.declared.scripts.Side.{Side}
 use Rattle.kv_syn.specs.declared.scripts.Side.TheVariants.{L, R}
 use Rattle.kv_table.specs.Names.{row_of}
-use Rattle.kv_table.specs.Tables.{rule_rows}
-use Rattle.kv_table.specs.declared.keyword.TheConstants as word
+use Rattle.kv_table.specs.Rules.{rule_rows}
+use Rattle.kv_table.specs.Keywords as word
 use Rattle.kv_punit.specs.declared.steps.Takes.{Takes}
 use Rattle.kv_punit.specs.declared.steps.Takes.TheVariants as take
 use Rattle.kv_punit.specs.Grammar as g

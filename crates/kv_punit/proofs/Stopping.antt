@@ -1,10 +1,10 @@
 -- Where neither a term nor a formula goes on.
 use Rattle.std.proofs.Common.{List, [], ◌∷◌}
-use Rattle.kv_lex.specs.declared.mark.TheConstants.{OPEN_BRACE, CLOSE_BRACE, SEMICOLON, BAR}
+use Rattle.kv_lex.specs.Marks.{OPEN_BRACE, CLOSE_BRACE, SEMICOLON, BAR}
 use Rattle.kv_lex.specs.declared.token.TokenKind.{TokenKind}
 use Rattle.kv_lex.specs.declared.token.TokenKind.TheVariants.{Word, Mark}
 use Rattle.kv_pexpr.specs.Grammar.{Stops, TermStops}
-use Rattle.kv_table.specs.declared.keyword.TheConstants as word
+use Rattle.kv_table.specs.Keywords as word
 
 -- nothing goes on behind the last token
 pub no_more : Stops []

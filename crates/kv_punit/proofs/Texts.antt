@@ -15,14 +15,16 @@ use Rattle.kv_pexpr.specs.Parse.{eat_word}
 use Rattle.kv_pexpr.proofs.Steps.{given_some, word_some}
 use Rattle.kv_syn.specs.Projects as P
 use Rattle.kv_syn.specs.declared.projects.Project.{Project}
-use Rattle.kv_table.specs.declared.keyword.TheConstants as word
+use Rattle.kv_table.specs.Keywords as word
 use Rattle.kv_punit.specs.Errors.{of_reader, of_lexer}
 use Rattle.kv_punit.specs.Gives.{Finds}
 use Rattle.kv_punit.specs.Limits.{HasFewSteps, HasFewUnits, HasFewTheorems}
 use Rattle.kv_punit.specs.Grammar as g
 use Rattle.kv_punit.specs.Grammar.{AreUnits, IsProject}
 use Rattle.kv_punit.specs.Parse as spec
-use Rattle.kv_punit.specs.ReadsAs.{IsOtherVersion, IsRefused, Settles, Reads, ReadsAs, OneProject}
+use Rattle.kv_punit.specs.ReadsAs.{IsOtherVersion, IsRefused, Reads, OneProject}
+use Rattle.kv_punit.specs.Settles.{Settles}
+use Rattle.kv_punit.proofs.Told.{TellsProject}
 use Rattle.kv_punit.specs.declared.errors.TextError.{TextError}
 use Rattle.kv_punit.specs.declared.errors.TextError.TheVariants as error
 use Rattle.kv_punit.specs.declared.errors.Which.TheVariants.{Steps, Units, Theorems}
@@ -42,7 +44,7 @@ version_reads ts rest n e = rw e
 pub project_from : (ts rest : List TokenKind) (p : P.Project) → ts ≡ Word word.PROJECT ∷ Number 1 ∷ rest → AreUnits rest p [] → IsProject ts p
 project_from ts rest p e are = rw e (g.project are)
 
-project_units : {ts : List TokenKind} {p : P.Project} → IsProject ts p → (rest : List TokenKind) × (ts ≡ Word word.PROJECT ∷ Number 1 ∷ rest) × AreUnits rest p []
+pub project_units : {ts : List TokenKind} {p : P.Project} → IsProject ts p → (rest : List TokenKind) × (ts ≡ Word word.PROJECT ∷ Number 1 ∷ rest) × AreUnits rest p []
 project_units (g.project {ts = ts} are) = (ts, refl, are)
 
 pub project_rest : (ts rest : List TokenKind) (p : P.Project) → ts ≡ Word word.PROJECT ∷ Number 1 ∷ rest → IsProject ts p → AreUnits rest p []
@@ -55,13 +57,13 @@ pub not_other : (ts rest : List TokenKind) → ts ≡ Word word.PROJECT ∷ Numb
 not_other ts rest e other = other.3 (cc (other.2, e))
 
 -- an error of the lexer
-pub lexer_error : (text : List ℕ) (e : LexError) → lex.Gives (Err e) (lexed text) → ReadsAs text (Err (of_lexer e))
+pub lexer_error : (text : List ℕ) (e : LexError) → lex.Gives (Err e) (lexed text) → TellsProject text (Err (of_lexer e))
 lexer_error text (fault.Token place) gives = gives
 lexer_error text fault.NoMemory gives = tt
 
 -- no version
 pub version_error : {X : Type 0} (view : X → ℕ × List TokenKind) (text : List ℕ) (tokens : List Token) (e : ReadError) → lexed text ≡ Ok tokens
-    → Gives view (Err e) (spec.version (kinds tokens)) → ReadsAs text (Err (of_reader e))
+    → Gives view (Err e) (spec.version (kinds tokens)) → TellsProject text (Err (of_reader e))
 version_error view text tokens reader.Syntax is gives = (
   tokens,
   is,
@@ -72,7 +74,7 @@ version_error view text tokens reader.NoMemory is gives = tt
 
 -- another version
 pub other_version : (text : List ℕ) (tokens : List Token) (n : ℕ) (rest : List TokenKind) → lexed text ≡ Ok tokens → spec.version (kinds tokens) ≡ Some (n, rest)
-    → (n ≡ 1 → ⊥) → ReadsAs text (Err error.Version)
+    → (n ≡ 1 → ⊥) → TellsProject text (Err error.Version)
 other_version text tokens n rest is gives other = (tokens, is, (n, rest, version_some (kinds tokens) (n, rest) gives, other))
 
 -- no units
@@ -82,7 +84,7 @@ units_error view ts reader.NoMemory none = tt
 
 -- what stands behind the version
 pub behind_version : (text : List ℕ) (tokens : List Token) (rest : List TokenKind) (r : Result Project TextError) → lexed text ≡ Ok tokens
-    → spec.version (kinds tokens) ≡ Some (1, rest) → Settles (λ p. AreUnits rest p []) r → ReadsAs text r
+    → spec.version (kinds tokens) ≡ Some (1, rest) → Settles (λ p. AreUnits rest p []) r → TellsProject text r
 behind_version text tokens rest (Ok p) is gives s =
     let e = version_some (kinds tokens) (1, rest) gives in
     record { tokens = tokens; lexes = is; spelt = project_from (kinds tokens) rest (plain_project p) e s.0; wellformed = s.1; few_steps = s.2; few_units = s.3; few_theorems = s.4 }
@@ -103,11 +105,11 @@ behind_version text tokens rest (Err error.Version) is gives s = absurd s
 behind_version text tokens rest (Err error.NoMemory) is gives s = tt
 
 -- an error that is handed on
-pub handed_on : (text : List ℕ) (r : Result Project TextError) (e y : TextError) → ReadsAs text (Err e) → r ≡ Err y → y ≡ e → ReadsAs text r
-handed_on text r e y is same to = subst (ReadsAs text) (sym (same ∙ ap (λ x. Err x) to)) is
+pub handed_on : (text : List ℕ) (r : Result Project TextError) (e y : TextError) → TellsProject text (Err e) → r ≡ Err y → y ≡ e → TellsProject text r
+handed_on text r e y is same to = subst (TellsProject text) (sym (same ∙ ap (λ x. Err x) to)) is
 
 -- what is told of each answer
-pub read_of : (text : List ℕ) (r : Result Project TextError) → ReadsAs text r → IfOk r (λ p. Reads text (plain_project p))
+pub read_of : (text : List ℕ) (r : Result Project TextError) → TellsProject text r → IfOk r (λ p. Reads text (plain_project p))
 read_of text (Ok p) is = is
 read_of text (Err e) is = tt
 
@@ -117,7 +119,7 @@ same_tokens is r = let e = r.lexes in cc
 spelt_by : {text : List ℕ} {p : P.Project} (tokens : List Token) → lexed text ≡ Ok tokens → (r : Reads text p) → IsProject (kinds tokens) p
 spelt_by {text} {p} tokens is r = subst (λ x. IsProject (kinds x) p) (same_tokens is r) r.spelt
 
-pub refused : (text : List ℕ) (r : Result Project TextError) → ReadsAs text r → IsRefused r → (p : P.Project) → Reads text p → ⊥
+pub refused : (text : List ℕ) (r : Result Project TextError) → TellsProject text r → IsRefused r → (p : P.Project) → Reads text p → ⊥
 refused text (Ok q) is told p reads = told
 refused text (Err (error.Token place)) is told p reads = absurd (let e = reads.lexes in cc)
 refused text (Err error.Version) is told p reads =

@@ -1,7 +1,7 @@
 -- What the parts of a theorem say of it.
 use Rattle.std.proofs.Common.{◌≡◌, List, ◌∷◌, refl, ap, ◌∙◌, sym, subst}
 use Rattle.std.specs.Prelude.{Bool, false, Err, Some}
-use Rattle.kv_lex.specs.declared.mark.TheConstants.{SEMICOLON}
+use Rattle.kv_lex.specs.Marks.{SEMICOLON}
 use Rattle.kv_lex.specs.declared.token.TokenKind.{TokenKind}
 use Rattle.kv_lex.specs.declared.token.TokenKind.TheVariants.{Mark}
 use Rattle.kv_pexpr.specs.Gives.{Gives}
@@ -11,9 +11,9 @@ use Rattle.kv_pexpr.specs.declared.errors.ReadError.{ReadError}
 use Rattle.kv_pexpr.specs.declared.errors.ReadError.TheVariants as reader
 use Rattle.kv_pexpr.proofs.Steps.{some_is, mark_some}
 use Rattle.kv_syn.specs.Projects.{Theorem}
-use Rattle.kv_syn.specs.RawTrees.{RawForm}
-use Rattle.kv_syn.specs.Trees.{Name}
-use Rattle.kv_table.specs.declared.keyword.TheConstants as word
+use Rattle.kv_raw.specs.RawTrees.{RawForm}
+use Rattle.kv_names.specs.Names.{Name}
+use Rattle.kv_table.specs.Keywords as word
 use Rattle.kv_punit.specs.Gives.{IsThat}
 use Rattle.kv_punit.specs.Grammar.{IsStatement, IsTheorem}
 use Rattle.kv_punit.specs.Parse as spec

@@ -1,13 +1,13 @@
 -- One turn of each loop.
 use Rattle.std.proofs.Common.{◌≡◌, ℕ, zero, suc, ◌+◌, ◌-◌, ◌<◌, ◌≤◌, ap, ◌∙◌, arith, List, [], ◌∷◌, ◌++◌}
 use Rattle.std.specs.Prelude.{Some, None}
-use Rattle.kv_lex.specs.declared.mark.TheConstants.{COMMA, CLOSE_BRACE, BAR}
+use Rattle.kv_lex.specs.Marks.{COMMA, CLOSE_BRACE, BAR}
 use Rattle.kv_lex.specs.declared.token.TokenKind.{TokenKind}
 use Rattle.kv_pexpr.specs.Parse.{Read, given, or_stay, eat_mark, eat_word, eat_name}
-use Rattle.kv_syn.specs.Trees.{Name}
+use Rattle.kv_names.specs.Names.{Name}
 use Rattle.kv_syn.specs.Scripts.{Script}
 use Rattle.kv_syn.specs.Projects.{Item}
-use Rattle.kv_table.specs.declared.keyword.TheConstants as word
+use Rattle.kv_table.specs.Keywords as word
 use Rattle.kv_punit.specs.declared.items.Declares.{Declares}
 use Rattle.kv_punit.specs.Parse.{block, child, separator, parts, part, items, item, started, eat_declares, listed, followed, script, step, node, hole}
 

@@ -1,17 +1,17 @@
 -- The parts of theorems and units.
 use Rattle.std.proofs.Common.{◌≡◌, List, [], ◌∷◌, refl, ap, ◌∙◌, sym, subst}
 use Rattle.std.specs.Prelude.{Some, false}
-use Rattle.kv_lex.specs.declared.mark.TheConstants.{SEMICOLON, COLON}
+use Rattle.kv_lex.specs.Marks.{SEMICOLON, COLON}
 use Rattle.kv_lex.specs.declared.token.TokenKind.{TokenKind}
 use Rattle.kv_lex.specs.declared.token.TokenKind.TheVariants.{Word, Ident, Mark}
 use Rattle.kv_pexpr.specs.Grammar.{ReadsForm}
 use Rattle.kv_pexpr.specs.Parse.{eat_mark, eat_word, eat_name}
 use Rattle.kv_pexpr.proofs.Steps.{some_is, given_some, mark_some, word_some, name_some}
-use Rattle.kv_syn.specs.RawTrees.{RawForm}
-use Rattle.kv_syn.specs.Trees.{Name}
+use Rattle.kv_raw.specs.RawTrees.{RawForm}
+use Rattle.kv_names.specs.Names.{Name}
 use Rattle.kv_syn.specs.Projects.{Theorem, Proof}
 use Rattle.kv_syn.specs.Projects as P
-use Rattle.kv_table.specs.declared.keyword.TheConstants as word
+use Rattle.kv_table.specs.Keywords as word
 use Rattle.kv_punit.specs.Grammar as g
 use Rattle.kv_punit.specs.Grammar.{IsStatement, IsTheorem, AreTheorems, AreProofs, IsHead, IsUnit}
 use Rattle.kv_punit.specs.Parse as spec

@@ -3,10 +3,10 @@ use Rattle.std.specs.Prelude.{ℕ, ◌≤◌, Bool, true, List}
 use Rattle.kv_syn.specs.ProjectBridge.{plain_proof, plain_theorem, plain_unit}
 use Rattle.kv_syn.specs.Projects as P
 use Rattle.kv_syn.specs.Readable.{is_readable_unit}
-use Rattle.kv_syn.specs.Trees.{Name}
+use Rattle.kv_names.specs.Names.{Name}
 use Rattle.kv_punit.specs.declared.commands.Command as code
 use Rattle.kv_punit.specs.declared.commands.Command.TheVariants as command
-use Rattle.kv_punit.specs.Limits.{script_steps}
+use Rattle.kv_punit.specs.Limits.{most_steps, script_steps}
 
 pub data Command : Type 0 where
   Add : (unit : P.Unit) → Command
@@ -52,9 +52,9 @@ plain_command command.Text = Command.Text
 plain_command command.Seal = Command.Seal
 plain_command command.Save = Command.Save
 
--- a script that the command has, has at most 50,000 steps
+-- a script that the command has, hasn't too many steps
 abbrev pub HasShortScript : Command → Type 0
-HasShortScript (Command.Proof unit proof) = script_steps proof.script ≤ 50000
+HasShortScript (Command.Proof unit proof) = script_steps proof.script ≤ most_steps
 HasShortScript other = Unit {0}
 
 -- a unit that the command has, has a form that units have so far

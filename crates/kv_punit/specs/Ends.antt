@@ -2,7 +2,7 @@
 use Rattle.std.specs.Prelude.{◌≡◌, List, None}
 use Rattle.kv_lex.specs.declared.token.TokenKind.{TokenKind}
 use Rattle.kv_pexpr.specs.Parse.{eat_word}
-use Rattle.kv_table.specs.declared.keyword.TheConstants as word
+use Rattle.kv_table.specs.Keywords as word
 use Rattle.kv_syn.specs.Projects as P
 use Rattle.kv_punit.specs.Grammar.{AreTheorems, AreProofs, IsUnit}
 

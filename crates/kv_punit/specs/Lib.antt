@@ -10,3 +10,5 @@ pub mod Ends
 pub mod Errors
 pub mod Commands
 pub mod Readings
+pub mod FirstFault
+pub mod Settles

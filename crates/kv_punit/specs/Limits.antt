@@ -4,7 +4,18 @@ use Rattle.std.specs.List.{All, IsDistinct}
 use Rattle.std.specs.Str.{bytes_eq}
 use Rattle.kv_syn.specs.Scripts.{Script, Scripts}
 use Rattle.kv_syn.specs.Projects as P
-use Rattle.kv_syn.specs.Trees.{Name}
+use Rattle.kv_names.specs.Names.{Name}
+
+-- the most steps of a script
+abbrev pub most_steps : ℕ
+most_steps = 50000
+
+-- the most units and the most theorems of a project
+abbrev pub most_units : ℕ
+most_units = 500
+
+abbrev pub most_theorems : ℕ
+most_theorems = 5000
 
 -- no two names are equal
 abbrev pub AreDifferent : List Name → Type 0
@@ -39,19 +50,19 @@ abbrev mutual
   scripts_steps Scripts.none = 0
   scripts_steps (Scripts.more script rest) = script_steps script + scripts_steps rest
 
--- no script has more than 50,000 steps
+-- no script has too many steps
 abbrev pub HasFewSteps : P.Project → Type 0
-HasFewSteps project = All (λ (unit : P.Unit). All (λ (proof : P.Proof). script_steps proof.script ≤ 50000) unit.proofs) project
+HasFewSteps project = All (λ (unit : P.Unit). All (λ (proof : P.Proof). script_steps proof.script ≤ most_steps) unit.proofs) project
 
--- there are at most 500 units
+-- there aren't too many units
 abbrev pub HasFewUnits : P.Project → Type 0
-HasFewUnits project = length project ≤ 500
+HasFewUnits project = length project ≤ most_units
 
 -- how many theorems a project has
 abbrev pub theorem_count : List P.Unit → ℕ
 theorem_count [] = 0
 theorem_count (unit ∷ rest) = length unit.theorems + theorem_count rest
 
--- there are at most 5,000 theorems
+-- there aren't too many theorems
 abbrev pub HasFewTheorems : P.Project → Type 0
-HasFewTheorems project = theorem_count project ≤ 5000
+HasFewTheorems project = theorem_count project ≤ most_theorems

@@ -1,24 +1,25 @@
 -- What the readers compute, as functions of the kinds of the tokens. That it is the grammar's is proved.
 use Rattle.std.specs.Str.{bytes_eq}
 use Rattle.std.specs.Prelude.{ℕ, zero, suc, Bool, true, false, if◌then◌else◌, ◌==◌, List, [], ◌∷◌, ◌++◌, length, Option, Some, None, codes}
-use Rattle.kv_lex.specs.declared.mark.TheConstants.{OPEN, CLOSE, OPEN_BRACE, CLOSE_BRACE, COMMA, SEMICOLON, COLON, DOT, EQUAL, ARROW, BAR}
+use Rattle.kv_lex.specs.Marks.{OPEN, CLOSE, OPEN_BRACE, CLOSE_BRACE, COMMA, SEMICOLON, COLON, DOT, EQUAL, ARROW, BAR}
 use Rattle.kv_lex.specs.declared.token.TokenKind.{TokenKind}
 use Rattle.kv_lex.specs.declared.token.TokenKind.TheVariants.{Word, Ident, Number, Mark}
 use Rattle.kv_pexpr.specs.Grammar.{tree_height, open_brackets}
 use Rattle.kv_pexpr.specs.Parse.{Read, given, or_stay, eat_mark, eat_word, eat_name, term, read}
 use Rattle.kv_pexpr.specs.declared.levels.Level.TheVariants as level
-use Rattle.kv_syn.specs.Trees.{Name}
-use Rattle.kv_syn.specs.RawTrees.{RawTerm, RawForm}
+use Rattle.kv_names.specs.Names.{Name}
+use Rattle.kv_raw.specs.RawTrees.{RawTerm, RawForm}
 use Rattle.kv_syn.specs.Scripts.{Step, Script}
 use Rattle.kv_syn.specs.declared.scripts.Side.{Side}
 use Rattle.kv_syn.specs.declared.scripts.Side.TheVariants.{L, R}
 use Rattle.kv_syn.specs.ScriptBridge.{scripts_of}
 use Rattle.kv_syn.specs.Projects.{Proof, Item, Kind}
 use Rattle.kv_syn.specs.Projects as P
-use Rattle.kv_syn.specs.declared.symbols.Var.{Var}
+use Rattle.kv_names.specs.declared.symbols.Var.{Var}
 use Rattle.kv_table.specs.Names.{row_of}
-use Rattle.kv_table.specs.Tables.{command_rows, rule_rows}
-use Rattle.kv_table.specs.declared.keyword.TheConstants as word
+use Rattle.kv_table.specs.Commands.{command_rows}
+use Rattle.kv_table.specs.Rules.{rule_rows}
+use Rattle.kv_table.specs.Keywords as word
 use Rattle.kv_punit.specs.declared.items.Declares.{Declares}
 use Rattle.kv_punit.specs.declared.items.Declares.TheVariants as declare
 use Rattle.kv_punit.specs.declared.steps.Takes.{Takes}

@@ -1,4 +1,4 @@
--- What a text of one unit, one script or one command is answered with.
+-- When a text is a spelling of one unit, one script or one command.
 use Rattle.std.specs.Prelude.{ℕ, ◌≡◌, ◌≤◌, List, [], Result, Ok, Err}
 use Rattle.kv_lex.specs.Tokens.{lexed}
 use Rattle.kv_lex.specs.declared.token.Token.{Token}
@@ -9,7 +9,7 @@ use Rattle.kv_syn.specs.Scripts.{Script}
 use Rattle.kv_punit.specs.Commands.{Command, HasShortScript, plain_command}
 use Rattle.kv_punit.specs.declared.commands.Command as code
 use Rattle.kv_punit.specs.Grammar.{IsCommand, IsHead, IsScript, path_steps}
-use Rattle.kv_punit.specs.Limits.{script_steps}
+use Rattle.kv_punit.specs.Limits.{most_steps, script_steps}
 use Rattle.kv_punit.specs.declared.errors.TextError.{TextError}
 use Rattle.kv_punit.specs.declared.errors.TextError.TheVariants as error
 use Rattle.kv_punit.specs.declared.errors.Which.TheVariants.{Steps, Units, Theorems}
@@ -20,18 +20,6 @@ pub record Spells {X : Type 0} (Is : List TokenKind → X → Type 0) (Keeps : X
   pub lexes : lexed text ≡ Ok tokens
   pub spelt : Is (kinds tokens) x
   pub few_steps : Keeps x
-
--- what is answered to a text: the thing that it spells, or else the first fault that it has, of these: a byte from which
--- no token reads, nothing that its tokens spell, too many steps in a script
-abbrev pub Answers : {X Y : Type 0} → (List TokenKind → Y → Type 0) → (Y → Type 0) → (X → Y) → List ℕ → Result X TextError → Type 0
-Answers Is Keeps view text (Ok x) = Spells Is Keeps text (view x)
-Answers Is Keeps view text (Err (error.Token place)) = lexed text ≡ Err place
-Answers {Y = Y} Is Keeps view text (Err error.Syntax) = (tokens : List Token) × (lexed text ≡ Ok tokens) × ((y : Y) → Is (kinds tokens) y → ⊥)
-Answers {Y = Y} Is Keeps view text (Err (error.Limit Steps)) = (tokens : List Token) × (lexed text ≡ Ok tokens) × ((y : Y) × Is (kinds tokens) y × (Keeps y → ⊥))
-Answers Is Keeps view text (Err (error.Limit Units)) = ⊥
-Answers Is Keeps view text (Err (error.Limit Theorems)) = ⊥
-Answers Is Keeps view text (Err error.Version) = ⊥
-Answers Is Keeps view text (Err error.NoMemory) = Unit {0}
 
 -- a unit without theorems and proofs, as all of the tokens
 abbrev pub IsLoneHead : List TokenKind → P.Unit → Type 0
@@ -45,7 +33,7 @@ abbrev pub IsLoneScript : List TokenKind → Script → Type 0
 IsLoneScript ts script = IsScript path_steps ts script []
 
 abbrev pub IsShort : Script → Type 0
-IsShort script = script_steps script ≤ 50000
+IsShort script = script_steps script ≤ most_steps
 
 -- the text is a spelling of the unit, of the script, of the command
 abbrev pub ReadsUnit : List ℕ → P.Unit → Type 0
@@ -60,8 +48,3 @@ ReadsCommand = Spells IsCommand HasShortScript
 -- one text is one thing
 abbrev pub IsOne : {X : Type 0} → (List ℕ → X → Type 0) → Type 0
 IsOne {X} Spelt = (text : List ℕ) (x y : X) → Spelt text x → Spelt text y → x ≡ y
-
--- the command itself, where its script is short, or the limit that it passes
-abbrev pub Limits : code.Command → Result code.Command TextError → Type 0
-Limits command (Ok found) = (found ≡ command) × HasShortScript (plain_command command)
-Limits command (Err fault) = (fault ≡ error.Limit Steps) × (HasShortScript (plain_command command) → ⊥)

@@ -1,4 +1,4 @@
--- What a text is answered with.
+-- When a text is a spelling of a project.
 use Rattle.std.specs.Prelude.{ℕ, ◌≡◌, ◌≢◌, List, ◌∷◌, Result, Ok, Err}
 use Rattle.kv_lex.specs.Tokens.{lexed}
 use Rattle.kv_lex.specs.declared.token.Token.{Token}
@@ -8,7 +8,7 @@ use Rattle.kv_pexpr.specs.Gives.{kinds}
 use Rattle.kv_syn.specs.ProjectBridge.{plain_project}
 use Rattle.kv_syn.specs.Projects as P
 use Rattle.kv_syn.specs.declared.projects.Project.{Project}
-use Rattle.kv_table.specs.declared.keyword.TheConstants as word
+use Rattle.kv_table.specs.Keywords as word
 use Rattle.kv_punit.specs.Grammar.{IsProject}
 use Rattle.kv_punit.specs.Limits.{IsWellformed, HasFewSteps, HasFewUnits, HasFewTheorems}
 use Rattle.kv_punit.specs.declared.errors.TextError.{TextError}
@@ -34,27 +34,6 @@ IsRefused (Err fault) = Unit {0}
 -- the version that the tokens give is another one
 abbrev pub IsOtherVersion : List TokenKind → Type 0
 IsOtherVersion ts = (n : ℕ) × (rest : List TokenKind) × (ts ≡ Word word.PROJECT ∷ Number n ∷ rest) × (n ≢ 1)
-
--- what is answered where these projects are spelt: the one that is wellformed and passes no limit, or the first fault
-abbrev pub Settles : (P.Project → Type 0) → Result Project TextError → Type 0
-Settles Is (Ok project) = Is (plain_project project) × IsWellformed (plain_project project) × HasFewSteps (plain_project project) × HasFewUnits (plain_project project) × HasFewTheorems (plain_project project)
-Settles Is (Err error.Syntax) = (project : P.Project) → Is project → IsWellformed project → ⊥
-Settles Is (Err (error.Limit Steps)) = (project : P.Project) × Is project × IsWellformed project × (HasFewSteps project → ⊥)
-Settles Is (Err (error.Limit Units)) = (project : P.Project) × Is project × IsWellformed project × HasFewSteps project × (HasFewUnits project → ⊥)
-Settles Is (Err (error.Limit Theorems)) = (project : P.Project) × Is project × IsWellformed project × HasFewSteps project × HasFewUnits project × (HasFewTheorems project → ⊥)
-Settles Is (Err (error.Token place)) = ⊥
-Settles Is (Err error.Version) = ⊥
-Settles Is (Err error.NoMemory) = Unit {0}
-
--- what is answered to a text: its project, or else the first fault that it has, of these: a byte from which no token
--- reads, another version, no wellformed project that its tokens spell, too many steps in a script, too many units, too
--- many theorems
-abbrev pub ReadsAs : List ℕ → Result Project TextError → Type 0
-ReadsAs text (Ok project) = Reads text (plain_project project)
-ReadsAs text (Err (error.Token place)) = lexed text ≡ Err place
-ReadsAs text (Err error.Version) = (tokens : List Token) × (lexed text ≡ Ok tokens) × IsOtherVersion (kinds tokens)
-ReadsAs text (Err error.NoMemory) = Unit {0}
-ReadsAs text (Err fault) = (tokens : List Token) × (lexed text ≡ Ok tokens) × (IsOtherVersion (kinds tokens) → ⊥) × Settles (IsProject (kinds tokens)) (Err fault)
 
 -- the same tokens spell no two projects
 abbrev pub OneSpelling : Type 0

@@ -1,14 +1,14 @@
 -- The steps that texts have so far: what stands behind the word of each rule, and the step that it makes.
 use Rattle.std.specs.Prelude.{ℕ, ◌==◌, Bool, if◌then◌else◌, List, [], ◌∷◌, Option, Some, None, codes}
 use Rattle.std.specs.List.{list_any}
-use Rattle.kv_syn.specs.Trees.{Name}
-use Rattle.kv_syn.specs.RawTrees.{RawTerm, RawForm}
+use Rattle.kv_names.specs.Names.{Name}
+use Rattle.kv_raw.specs.RawTrees.{RawTerm, RawForm}
 use Rattle.kv_syn.specs.Scripts.{Step, StepText}
 use Rattle.kv_syn.specs.declared.scripts.Side.{Side}
 use Rattle.kv_syn.specs.declared.scripts.Side.TheVariants.{L, R}
 use Rattle.kv_punit.specs.declared.steps.Takes.{Takes}
 use Rattle.kv_punit.specs.declared.steps.Takes.TheVariants as take
-use Rattle.kv_table.specs.declared.rule.TheConstants as rule
+use Rattle.kv_table.specs.Rules as rule
 
 abbrev pub is_one_of : List ℕ → ℕ → Bool
 is_one_of rows row = list_any (λ r. row == r) rows

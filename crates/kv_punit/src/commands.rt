@@ -3,8 +3,8 @@
 ghost use Rattle.std.specs.Prelude.{◌≡◌, true, IfOk};
 ghost use Rattle.kv_pexpr.specs.Gives.{kinds, Gives};
 ghost use Rattle.kv_table.specs.Names.{row_of};
-ghost use Rattle.kv_table.specs.Tables.{command_rows};
-ghost use Rattle.kv_table.specs.declared.command.TheConstants as words;
+ghost use Rattle.kv_table.specs.Commands.{command_rows};
+ghost use Rattle.kv_table.specs.Commands as words;
 ghost use Rattle.kv_punit.specs.Commands.{has_readable_unit, plain_command};
 ghost use Rattle.kv_punit.specs.Gives.{Finds};
 ghost use Rattle.kv_punit.specs.Grammar.{IsArguments, IsCommand};
@@ -72,7 +72,7 @@ fn command_row(tokens: &[Token]) -> Result<(u32, &[Token]), ReadError>
 }
 
 /// The row of the command whose word the text is.
-#[tactic(auto, unfolding(kv_table::specs::Tables::command_rows))]
+#[tactic(auto, unfolding(kv_table::specs::Commands::command_rows))]
 fn command_of(text: &[u8]) -> Option<u32>
     ensures { result ≡ row_of command_rows text.now }
 {

@@ -11,7 +11,9 @@ ghost use Rattle.kv_punit.specs.Gives.{Finds};
 ghost use Rattle.kv_punit.specs.Grammar.{AreUnits};
 ghost use Rattle.kv_punit.specs.Limits.{IsWellformed};
 ghost use Rattle.kv_punit.specs.Parse as spec;
-ghost use Rattle.kv_punit.specs.ReadsAs.{IsRefused, OneProject, OneSpelling, Reads, ReadsAs, Settles};
+ghost use Rattle.kv_punit.specs.FirstFault.{Answers, project_faults};
+ghost use Rattle.kv_punit.specs.Settles.{Settles};
+ghost use Rattle.kv_punit.specs.ReadsAs.{IsRefused, OneProject, OneSpelling, Reads};
 
 use crate::errors::{TextError, Which};
 use crate::limits::{has_few_steps, theorem_count};
@@ -43,7 +45,7 @@ const VERSION: u32 = 1;
 pub fn project(alloc: Global, text: &[u8]) -> Result<Project, TextError>
     ensures reads { IfOk result (λ project. Reads text.now (plain_project project)) }
     ensures refuses { IsRefused result → (project : P.Project) → Reads text.now project → ⊥ }
-    ensures faults { ReadsAs text.now result }
+    ensures faults { Answers project_faults text.now result }
 {
     let list = tokens(alloc, text)?;
     let (version, rest) = version(list.items())?;

@@ -9,8 +9,10 @@ ghost use Rattle.kv_syn.specs.Scripts as S;
 ghost use Rattle.kv_punit.specs.Commands as C;
 ghost use Rattle.kv_punit.specs.Commands.{plain_command, has_readable_unit, HasShortScript};
 ghost use Rattle.kv_punit.specs.Grammar.{IsCommand};
-ghost use Rattle.kv_punit.specs.Readings.{Answers, Limits, IsLoneHead, IsLoneScript, IsOne, IsShort, NoLimit, ReadsCommand, ReadsScript, ReadsUnit};
+ghost use Rattle.kv_punit.specs.Readings.{IsOne, ReadsCommand, ReadsScript, ReadsUnit};
 ghost use Rattle.kv_punit.specs.ReadsAs.{IsRefused};
+ghost use Rattle.kv_punit.specs.FirstFault.{Answers, command_faults, script_faults, unit_faults};
+ghost use Rattle.kv_punit.specs.Settles.{Limits};
 
 use crate::commands::{Command, lone_command};
 use crate::errors::{TextError, Which};
@@ -28,7 +30,7 @@ use std::alloc::Global;
 pub fn unit(alloc: Global, text: &[u8]) -> Result<Unit, TextError>
     ensures reads { IfOk result (λ unit. ReadsUnit text.now (plain_unit unit)) }
     ensures refuses { IsRefused result → (unit : P.Unit) → ReadsUnit text.now unit → ⊥ }
-    ensures faults { Answers IsLoneHead NoLimit plain_unit text.now result }
+    ensures faults { Answers unit_faults text.now result }
     ensures readable { IfOk result (λ unit. is_readable_unit unit ≡ true) }
 {
     let list = tokens(alloc, text)?;
@@ -43,7 +45,7 @@ pub fn unit(alloc: Global, text: &[u8]) -> Result<Unit, TextError>
 pub fn script(alloc: Global, text: &[u8]) -> Result<Script, TextError>
     ensures reads { IfOk result (λ script. ReadsScript text.now (plain_script script)) }
     ensures refuses { IsRefused result → (script : S.Script) → ReadsScript text.now script → ⊥ }
-    ensures faults { Answers IsLoneScript IsShort plain_script text.now result }
+    ensures faults { Answers script_faults text.now result }
 {
     let list = tokens(alloc, text)?;
     let script = lone_script(alloc, list.items())?;
@@ -63,7 +65,7 @@ pub fn script(alloc: Global, text: &[u8]) -> Result<Script, TextError>
 pub fn command(alloc: Global, text: &[u8]) -> Result<Command, TextError>
     ensures reads { IfOk result (λ command. ReadsCommand text.now (plain_command command)) }
     ensures refuses { IsRefused result → (command : C.Command) → ReadsCommand text.now command → ⊥ }
-    ensures faults { Answers IsCommand HasShortScript plain_command text.now result }
+    ensures faults { Answers command_faults text.now result }
     ensures readable { IfOk result (λ command. has_readable_unit command ≡ true) }
 {
     let list = tokens(alloc, text)?;

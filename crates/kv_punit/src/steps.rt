@@ -3,7 +3,7 @@
 ghost use Rattle.std.specs.Prelude.{◌≡◌, ◌<◌, [], ◌∷◌, IfOk, IfSome, Some};
 ghost use Rattle.kv_syn.specs.ScriptBridge.{plain_step, plain_text};
 ghost use Rattle.kv_table.specs.Names.{row_of};
-ghost use Rattle.kv_table.specs.Tables.{rule_rows};
+ghost use Rattle.kv_table.specs.Rules.{rule_count, rule_rows};
 ghost use Rattle.kv_pexpr.specs.Gives.{kinds, Gives};
 ghost use Rattle.kv_punit.specs.Gives.{seen};
 ghost use Rattle.kv_punit.specs.Parse as spec;
@@ -75,7 +75,7 @@ fn behind_rule(
     what: Takes,
     tokens: &[Token],
 ) -> Result<(Step, &[Token]), ReadError>
-    requires { row < 38 }
+    requires { row < rule_count }
     ensures { Gives (seen plain_step) result (spec.behind_rule row what (kinds tokens.now)) }
 {
     match what {
@@ -91,7 +91,7 @@ fn behind_rule(
 
 /// The step of the rule with the number that comes first.
 fn one_number(alloc: Global, row: u32, tokens: &[Token]) -> Result<(Step, &[Token]), ReadError>
-    requires { row < 38 }
+    requires { row < rule_count }
     ensures { Gives (seen plain_step) result (spec.one_number row (kinds tokens.now)) }
 {
     let (place, rest) = number(tokens)?;
@@ -101,7 +101,7 @@ fn one_number(alloc: Global, row: u32, tokens: &[Token]) -> Result<(Step, &[Toke
 
 /// The step of the rule with the two numbers that come first.
 fn two_numbers(alloc: Global, row: u32, tokens: &[Token]) -> Result<(Step, &[Token]), ReadError>
-    requires { row < 38 }
+    requires { row < rule_count }
     ensures { Gives (seen plain_step) result (spec.two_numbers row (kinds tokens.now)) }
 {
     let (left, rest) = number(tokens)?;
@@ -112,7 +112,7 @@ fn two_numbers(alloc: Global, row: u32, tokens: &[Token]) -> Result<(Step, &[Tok
 
 /// The step of the rule with a number, and behind `as` a new name.
 fn number_and_name(alloc: Global, row: u32, tokens: &[Token]) -> Result<(Step, &[Token]), ReadError>
-    requires { row < 38 }
+    requires { row < rule_count }
     ensures { Gives (seen plain_step) result (spec.number_and_name row (kinds tokens.now)) }
 {
     let (place, rest) = number(tokens)?;
@@ -124,7 +124,7 @@ fn number_and_name(alloc: Global, row: u32, tokens: &[Token]) -> Result<(Step, &
 
 /// The step of the rule with a number, and behind `with` the longest term.
 fn number_and_term(alloc: Global, row: u32, tokens: &[Token]) -> Result<(Step, &[Token]), ReadError>
-    requires { row < 38 }
+    requires { row < rule_count }
     ensures { Gives (seen plain_step) result (spec.number_and_term row (kinds tokens.now)) }
 {
     let (place, rest) = number(tokens)?;
@@ -136,7 +136,7 @@ fn number_and_term(alloc: Global, row: u32, tokens: &[Token]) -> Result<(Step, &
 
 /// The step of the rule with the longest formula.
 fn formula(alloc: Global, row: u32, tokens: &[Token]) -> Result<(Step, &[Token]), ReadError>
-    requires { row < 38 }
+    requires { row < rule_count }
     ensures { Gives (seen plain_step) result (spec.formula row (kinds tokens.now)) }
 {
     let (form, rest) = form(alloc, tokens)?;
@@ -146,7 +146,7 @@ fn formula(alloc: Global, row: u32, tokens: &[Token]) -> Result<(Step, &[Token])
 
 /// The step of the rule with a side and a number.
 fn side_and_number(alloc: Global, row: u32, tokens: &[Token]) -> Result<(Step, &[Token]), ReadError>
-    requires { row < 38 }
+    requires { row < rule_count }
     ensures { Gives (seen plain_step) result (spec.side_and_number row (kinds tokens.now)) }
 {
     let (side, rest) = side(tokens)?;
@@ -157,7 +157,7 @@ fn side_and_number(alloc: Global, row: u32, tokens: &[Token]) -> Result<(Step, &
 
 /// The step of the rule with a side between two numbers.
 fn side_between(alloc: Global, row: u32, tokens: &[Token]) -> Result<(Step, &[Token]), ReadError>
-    requires { row < 38 }
+    requires { row < rule_count }
     ensures { Gives (seen plain_step) result (spec.side_between row (kinds tokens.now)) }
 {
     let (equation, rest) = number(tokens)?;
@@ -169,7 +169,7 @@ fn side_between(alloc: Global, row: u32, tokens: &[Token]) -> Result<(Step, &[To
 
 /// The step of these parts.
 fn step_with(rule: u32, side: Option<Side>, numbers: List<u32>, text: StepText) -> Step
-    requires { rule < 38 }
+    requires { rule < rule_count }
     ensures { plain_step result ≡ grammar.step_with rule side numbers (plain_text text) }
 {
     Step {
@@ -231,7 +231,7 @@ fn side_named(name: &[u8]) -> Option<Side>
 /// The row of the rule whose name comes first, and the tokens behind it.
 fn rule_row(tokens: &[Token]) -> Result<(u32, &[Token]), ReadError>
     ensures reads { Gives (λ found. (found.0, kinds found.1.now)) result (spec.eat_rule (kinds tokens.now)) }
-    ensures within { IfOk result (λ found. found.0 < 38) }
+    ensures within { IfOk result (λ found. found.0 < rule_count) }
 {
     let Some((first, rest)) = tokens.split_first() else {
         return Err(ReadError::Syntax);
@@ -246,10 +246,10 @@ fn rule_row(tokens: &[Token]) -> Result<(u32, &[Token]), ReadError>
 }
 
 /// The row of the rule that the text is.
-#[tactic(auto, unfolding(kv_table::specs::Tables::rule_rows))]
+#[tactic(auto, unfolding(kv_table::specs::Rules::rule_rows))]
 fn rule_of(text: &[u8]) -> Option<u32>
     ensures value { result ≡ row_of rule_rows text.now }
-    ensures within { IfSome result (λ row. row < 38) }
+    ensures within { IfSome result (λ row. row < rule_count) }
 {
     row_of(&rules(), text)
 }

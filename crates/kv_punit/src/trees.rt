@@ -2,8 +2,8 @@
 
 ghost use Rattle.std.specs.Prelude.{◌≡◌, List, IfOk};
 ghost use Rattle.kv_lex.specs.declared.token.TokenKind.{TokenKind as KindTree};
-ghost use Rattle.kv_syn.specs.RawBridge.{raw_form, raw_term};
-ghost use Rattle.kv_syn.specs.RawTrees.{RawForm as RawTree};
+ghost use Rattle.kv_raw.specs.RawBridge.{raw_form, raw_term};
+ghost use Rattle.kv_raw.specs.RawTrees.{RawForm as RawTree};
 ghost use Rattle.kv_pexpr.specs.Gives.{kinds, Gives};
 ghost use Rattle.kv_pexpr.specs.Grammar.{ReadsForm, Stops};
 ghost use Rattle.kv_punit.specs.Gives.{seen, IsThat};

@@ -3,7 +3,7 @@
 ghost use Rattle.std.specs.Prelude.{◌≡◌, ◌<◌, ◌≤◌, IfSome, IsTrue, slice_get};
 ghost use Rattle.std.specs.Option.{option_map};
 ghost use Rattle.kv_table.specs.Names.{row_of};
-ghost use Rattle.kv_table.specs.Tables.{keyword_rows};
+ghost use Rattle.kv_table.specs.Keywords.{keyword_rows};
 ghost use Rattle.kv_punit.specs.Grammar.{text_of};
 ghost use Rattle.kv_punit.specs.Tests.{are_ascii};
 

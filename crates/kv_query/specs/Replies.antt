@@ -2,7 +2,7 @@
 use Rattle.std.specs.Prelude.{ℕ, if◌then◌else◌, List, [], ◌∷◌, ◌++◌, codes, flat_map}
 use Rattle.std.specs.Str.{bytes_eq}
 use Rattle.kv_print.specs.Texts.{reason_text, state_text}
-use Rattle.kv_syn.specs.Trees.{Name}
+use Rattle.kv_names.specs.Names.{Name}
 use Rattle.kv_syn.specs.declared.outcomes.Row.{Row}
 use Rattle.kv_syn.specs.declared.outcomes.State.{State}
 use Rattle.kv_syn.specs.declared.outcomes.State.TheVariants.{Idle}

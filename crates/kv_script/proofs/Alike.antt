@@ -7,22 +7,24 @@ use Rattle.kv_elab.specs.Typed.{Typed, and_then}
 use Rattle.kv_elab.specs.declared.contexts.Context.{Context}
 use Rattle.kv_prop.proofs.Alike.{same_premises}
 use Rattle.kv_prop.specs.Premises.{needs, head_looks}
+use Rattle.kv_script.proofs.Kept.{every_asked}
 use Rattle.kv_script.specs.Answers.{Answer, context_of, typed_text, typed_step, text_looks, reasoned, answer_where, step_answer, count, with_children, answer}
-use Rattle.kv_script.specs.Events.{Event, child_path, on_premises, events, events_below, asked_looks, goal_sequent}
+use Rattle.kv_script.specs.Events.{Event, child_path, on_premises, events, events_below, asked_looks, goal_sequent, replay_events}
 use Rattle.kv_script.specs.Laws.{SameReplays}
 use Rattle.kv_sig.specs.Members.{Every}
 use Rattle.kv_sig.specs.Signatures.{profile_of}
 use Rattle.kv_sig.specs.Steps.{TypedText}
 use Rattle.kv_sig.specs.Views.{View, AnswersAlike}
-use Rattle.kv_syn.specs.RawTrees.{RawTerm}
+use Rattle.kv_raw.specs.RawTrees.{RawTerm}
 use Rattle.kv_syn.specs.Scripts.{Script, Scripts, Step, StepText}
-use Rattle.kv_syn.specs.Trees.{Name, Term, Terms, Sequent}
+use Rattle.kv_names.specs.Names.{Name}
+use Rattle.kv_trees.specs.Trees.{Term, Terms, Sequent}
 use Rattle.kv_syn.specs.declared.outcomes.Look.{Look}
 use Rattle.kv_syn.specs.declared.outcomes.Look.TheVariants.{Symbol}
-use Rattle.kv_syn.specs.declared.symbols.Profile.{Profile}
-use Rattle.kv_syn.specs.declared.symbols.Profile.TheVariants.{Sort, Fun, Pred, Proc}
-use Rattle.kv_syn.specs.declared.symbols.Symbol.{Symbol as SymbolRow}
-use Rattle.kv_syn.specs.declared.trees.Ref.{Ref}
+use Rattle.kv_names.specs.declared.symbols.Profile.{Profile}
+use Rattle.kv_names.specs.declared.symbols.Profile.TheVariants.{Sort, Fun, Pred, Proc}
+use Rattle.kv_names.specs.declared.symbols.Symbol.{Symbol as SymbolRow}
+use Rattle.kv_trees.specs.declared.trees.Ref.{Ref}
 
 every_front : {A : Type 0} (P : A → Type 0) (xs ys : List A) → Every P (xs ++ ys) → Every P xs
 every_front P [] ys e = tt
@@ -136,4 +138,4 @@ module _ (v w : View) where
         (same_below rest ps path (i + 1) (every_back (AnswersAlike v w) (asked_looks one) (asked_looks others) split))
 
 pub same_replays : SameReplays
-same_replays v w goal script e = same_events v w script (goal_sequent goal) [] e
+same_replays v w goal script e = same_events v w script (goal_sequent goal) [] (every_asked (AnswersAlike v w) (asked_looks (replay_events v goal script)) e)

@@ -2,8 +2,8 @@
 use Rattle.std.proofs.Common.{◌≡◌, ℕ, ap, ◌∙◌}
 use Rattle.std.specs.Prelude.{true, false, ◌||◌, Some, None}
 use Rattle.std.proofs.lemmas.Bool.{cond-true}
-use Rattle.kv_syn.specs.Trees.{Term, Form, Prog}
-use Rattle.kv_syn.specs.Variables.{term_any, modifies}
+use Rattle.kv_trees.specs.Trees.{Term, Form, Prog}
+use Rattle.kv_trees.specs.Variables.{term_any, modifies}
 use Rattle.kv_subst.specs.Changing.{changed_form}
 use Rattle.kv_subst.specs.Opening.{opened, form_keeps, is_new, is_admissible, open_form}
 use Rattle.kv_prop.specs.Replacing.{replaced_form, touches}

@@ -3,10 +3,10 @@ use Rattle.std.proofs.Common.{ℕ, ◌+◌, Bool, true, false, ◌==◌, if◌th
 use Rattle.std.specs.Prelude.{nat_lt, is_none}
 use Rattle.std.proofs.lemmas.Bool.{eqb-true}
 use Rattle.kv_syn.specs.Scripts.{Script, Scripts, Step}
-use Rattle.kv_syn.specs.Trees.{Form, Sequent}
+use Rattle.kv_trees.specs.Trees.{Form, Sequent}
 use Rattle.kv_syn.specs.declared.outcomes.Fault.{Fault}
 use Rattle.kv_syn.specs.declared.outcomes.Reason.{Reason}
-use Rattle.kv_syn.proofs.Same.{parts}
+use Rattle.kv_trees.proofs.Same.{parts}
 use Rattle.kv_sig.specs.Members.{Every}
 use Rattle.kv_sig.specs.Signatures.{profile_of}
 use Rattle.kv_sig.specs.Steps.{TypedText}

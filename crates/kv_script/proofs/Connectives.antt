@@ -1,9 +1,9 @@
 -- The steps of the connectives, and those that close or drop: each is an instance of its schema, with good premises.
 use Rattle.std.proofs.Common.{ℕ, List, [], ◌++◌, Some, inl, inr, ◌≡◌, refl, sym, ap, ◌∙◌}
-use Rattle.kv_syn.specs.Same.{form_eq}
-use Rattle.kv_syn.specs.Trees.{Form, Sequent}
+use Rattle.kv_trees.specs.Same.{form_eq}
+use Rattle.kv_trees.specs.Trees.{Form, Sequent}
 use Rattle.kv_syn.specs.declared.scripts.Side.TheVariants.{L, R}
-use Rattle.kv_syn.proofs.Same.{form_is}
+use Rattle.kv_trees.proofs.Same.{form_is}
 use Rattle.kv_sig.specs.FreeNames.{free_form, assumed_form}
 use Rattle.kv_sig.specs.Places.{item_at}
 use Rattle.kv_sig.specs.Sequents.{in_place, two_in_place, at_end, without}

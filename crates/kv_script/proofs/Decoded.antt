@@ -1,11 +1,12 @@
 -- A step that isn't refused is an instance of a schema, and its premises are good.
 use Rattle.std.proofs.Common.{ℕ, ◌==◌, List, [], ◌∷◌, Option, Some, None, ◌≡◌}
-use Rattle.kv_syn.specs.Trees.{Name, Term, Sequent}
+use Rattle.kv_names.specs.Names.{Name}
+use Rattle.kv_trees.specs.Trees.{Term, Sequent}
 use Rattle.kv_syn.specs.declared.scripts.Side.{Side}
 use Rattle.kv_sig.specs.Signatures.{profile_of}
 use Rattle.kv_sig.specs.Steps.{TypedText, TypedStep}
 use Rattle.kv_sig.specs.Views.{View}
-use Rattle.kv_table.specs.declared.rule.TheConstants as rule
+use Rattle.kv_table.specs.Rules as rule
 use Rattle.kv_calc.specs.Calculus.{Theory, Good}
 use Rattle.kv_prop.proofs.Alike.{if_is, beside_is}
 use Rattle.kv_prop.specs.Premises.{premises_of, premises}

@@ -1,10 +1,10 @@
 -- The steps of equations: each is an instance of its schema, with good premises.
 use Rattle.std.proofs.Common.{ℕ, List, [], Some, inl, inr, ◌≡◌, refl, sym, ap, ◌∙◌, subst}
-use Rattle.kv_syn.specs.Same.{term_eq}
-use Rattle.kv_syn.specs.Trees.{Term, Form, Sequent}
+use Rattle.kv_trees.specs.Same.{term_eq}
+use Rattle.kv_trees.specs.Trees.{Term, Form, Sequent}
 use Rattle.kv_syn.specs.declared.scripts.Side.{Side}
 use Rattle.kv_syn.specs.declared.scripts.Side.TheVariants.{L}
-use Rattle.kv_syn.proofs.Same.{term_is}
+use Rattle.kv_trees.proofs.Same.{term_is}
 use Rattle.kv_sig.specs.FreeNames.{free_term, free_form}
 use Rattle.kv_sig.specs.Members.{In}
 use Rattle.kv_sig.specs.Places.{item_at}
@@ -22,6 +22,7 @@ use Rattle.kv_script.proofs.Bodies.{body_of, body_old, body_new}
 use Rattle.kv_script.proofs.Connectives.{swapped}
 use Rattle.kv_script.proofs.Inversions.{okay, position_ok, when_ok, equal_ok, elsewhere_ok, changed_ok}
 use Rattle.kv_script.proofs.Instances.{Instance, by_none, by_one, all_of_it, part_at, turned}
+use Rattle.kv_script.proofs.Marked.{form_marked}
 use Rattle.kv_script.proofs.Replaced.{form_replaced, form_names, same_assumed}
 
 module _ (v : View) (T : Theory) (S : Sequent) (g : Good T S) where
@@ -64,6 +65,10 @@ module _ (v : View) (T : Theory) (S : Sequent) (g : Good T S) where
       let h = replaced_form t u 0 f in
       let here = x.1 ∙ ap Some z.2 in
       let premise = changed_ok t u f (λ a. one (in_place side j a S)) ps z.3 in
-      let p = replaced_part t u f (part_at T S g L i (Form.Equal t u) here) (part_at T S g side j f y.1) in
+      let equation = part_at T S g L i (Form.Equal t u) here in
+      let old = part_at T S g side j f y.1 in
+      let sort = equation.typed.0 in
+      let body = form_marked T.signature [] sort t u equation.typed.1 0 [] f refl old.typed in
+      let p = replaced_part t u f equation old in
       by_one T S g (c.Step.replace i side j (body_of t u f)) (in_place side j h S) ps premise
-      (t, u, f, h, here, y.1, w.0, body_old t u f, body_new t u f, refl) (whole_in_place T S side j h S p (all_of_it T S g))
+      (t, u, sort, f, h, here, y.1, w.0, equation.typed.1, body, body_old t u f, body_new t u f, refl) (whole_in_place T S side j h S p (all_of_it T S g))

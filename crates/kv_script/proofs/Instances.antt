@@ -1,6 +1,6 @@
 -- An instance of a schema with good premises, by what the premises are.
 use Rattle.std.proofs.Common.{ℕ, List, [], ◌∷◌, ◌++◌, Some, ◌≡◌, sym, subst}
-use Rattle.kv_syn.specs.Trees.{Form, Sequent}
+use Rattle.kv_trees.specs.Trees.{Form, Sequent}
 use Rattle.kv_syn.specs.declared.scripts.Side.{Side}
 use Rattle.kv_syn.specs.declared.scripts.Side.TheVariants.{L, R}
 use Rattle.kv_sig.specs.FreeNames.{free_form, assumed_form}

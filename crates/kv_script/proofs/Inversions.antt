@@ -2,12 +2,13 @@
 use Rattle.std.proofs.Common.{ℕ, Bool, true, false, ◌&&◌, ◌==◌, not, if◌then◌else◌, List, [], ◌∷◌, Option, Some, None, Ok, Err, ◌≡◌, refl, sym, ap}
 use Rattle.std.specs.Str.{bytes_eq}
 use Rattle.std.proofs.lemmas.Bool.{eqb-false}
-use Rattle.kv_syn.specs.Same.{form_eq}
-use Rattle.kv_syn.specs.Trees.{Name, Term, Form, Sequent}
+use Rattle.kv_trees.specs.Same.{form_eq}
+use Rattle.kv_names.specs.Names.{Name}
+use Rattle.kv_trees.specs.Trees.{Term, Form, Sequent}
 use Rattle.kv_syn.specs.declared.scripts.Side.{Side}
 use Rattle.kv_syn.specs.declared.scripts.Side.TheVariants.{L, R}
-use Rattle.kv_syn.proofs.Same.{name_is}
-use Rattle.kv_sig.specs.declared.refusals.StepError.{StepError}
+use Rattle.kv_trees.proofs.Same.{name_is}
+use Rattle.kv_prop.specs.Refusals.{Refusal}
 use Rattle.kv_calc.specs.Calculus.{IsElsewhere}
 use Rattle.kv_prop.specs.Premises.{Premises, or_position, elsewhere, as_false, as_true, as_not, as_and, as_or, as_imp, as_iff, as_all, as_ex, as_equal, changed, or_sort, or_label, or_fresh, or_captured, one, two, fits}
 use Rattle.kv_prop.specs.Replacing.{replaced_form}
@@ -22,7 +23,7 @@ pub position_ok : (o : Option Form) (next : Form → Premises) (ps : List Sequen
 position_ok (Some f) next ps e = (f, refl, e)
 position_ok None next ps e = cc
 
-pub when_ok : (t : Bool) (answer : Premises) (r : StepError) (ps : List Sequent) → (if t then answer else Err r) ≡ okay ps → (t ≡ true) × (answer ≡ okay ps)
+pub when_ok : (t : Bool) (answer : Premises) (r : Refusal) (ps : List Sequent) → (if t then answer else Err r) ≡ okay ps → (t ≡ true) × (answer ≡ okay ps)
 when_ok true answer r ps e = (refl, e)
 when_ok false answer r ps e = cc
 
@@ -87,7 +88,7 @@ pub captured_ok : (o : Option Form) (next : Form → Premises) (ps : List Sequen
 captured_ok (Some f) next ps e = (f, refl, e)
 captured_ok None next ps e = cc
 
-pub unless_ok : (t : Bool) (answer : Premises) (r : StepError) (ps : List Sequent) → (if t then Err r else answer) ≡ okay ps → (t ≡ false) × (answer ≡ okay ps)
+pub unless_ok : (t : Bool) (answer : Premises) (r : Refusal) (ps : List Sequent) → (if t then Err r else answer) ≡ okay ps → (t ≡ false) × (answer ≡ okay ps)
 unless_ok true answer r ps e = cc
 unless_ok false answer r ps e = (refl, e)
 

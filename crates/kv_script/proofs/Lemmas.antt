@@ -1,6 +1,7 @@
 -- The steps `cut` and `use`: each is an instance of its schema, with good premises.
 use Rattle.std.proofs.Common.{List, [], Some, ◌≡◌, refl, subst}
-use Rattle.kv_syn.specs.Trees.{Name, Form, Sequent}
+use Rattle.kv_names.specs.Names.{Name}
+use Rattle.kv_trees.specs.Trees.{Form, Sequent}
 use Rattle.kv_syn.specs.declared.scripts.Side.TheVariants.{L, R}
 use Rattle.kv_sig.specs.FreeNames.{IsClosed}
 use Rattle.kv_sig.specs.Members.{In}

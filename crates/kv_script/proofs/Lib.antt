@@ -9,6 +9,8 @@ pub mod Equations
 pub mod Instances
 pub mod Inversions
 pub mod Lemmas
+pub mod Kept
+pub mod Marked
 pub mod Marks
 pub mod Onces
 pub mod Outcomes

@@ -1,12 +1,12 @@
 -- The body that a replacement stands for: the formula under a binder of its own, whose variable stands at each place that is
 -- replaced. It is a body of the schema of `subst`: at t it is the formula, at u the one with u for t, and both are admissible.
 use Rattle.std.proofs.Common.{ℕ, ◌+◌, Bool, true, false, ◌&&◌, ◌||◌, not, if◌then◌else◌, ◌≡◌, refl, sym, ap, ap₂, ◌∙◌}
-use Rattle.kv_syn.specs.Same.{term_eq}
-use Rattle.kv_syn.specs.Trees.{Term, Terms, Form, Prog}
-use Rattle.kv_syn.specs.Variables.{term_any, terms_any, form_has, prog_has, modifies}
-use Rattle.kv_syn.specs.declared.trees.Ref.{Ref}
-use Rattle.kv_syn.specs.declared.trees.Ref.TheVariants.{Bound}
-use Rattle.kv_syn.proofs.Same.{term_is}
+use Rattle.kv_trees.specs.Same.{term_eq}
+use Rattle.kv_trees.specs.Trees.{Term, Terms, Form, Prog}
+use Rattle.kv_trees.specs.Variables.{term_any, terms_any, form_has, prog_has, modifies}
+use Rattle.kv_trees.specs.declared.trees.Ref.{Ref}
+use Rattle.kv_trees.specs.declared.trees.Ref.TheVariants.{Bound}
+use Rattle.kv_trees.proofs.Same.{term_is}
 use Rattle.kv_subst.specs.Changing.{changed_term, changed_terms, changed_form, changed_prog}
 use Rattle.kv_subst.specs.Opening.{raised_var, raised, raised_term, opened, keeps, form_keeps, prog_keeps}
 use Rattle.kv_prop.specs.Replacing.{replaced_term, replaced_terms, replaced_form, touches}

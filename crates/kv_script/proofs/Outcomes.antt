@@ -6,7 +6,7 @@ use Rattle.kv_script.specs.Events.{Event, outcome_of, first_fault, goal_count, i
 use Rattle.kv_script.specs.Once.{names_once, looks_once}
 use Rattle.kv_script.specs.Tallies.{Told, tally_outcome}
 use Rattle.kv_script.specs.declared.tally.Tally.{Tally}
-use Rattle.kv_syn.specs.Trees.{Name}
+use Rattle.kv_names.specs.Names.{Name}
 use Rattle.kv_syn.specs.declared.outcomes.Look.{Look}
 use Rattle.kv_syn.specs.declared.outcomes.Fault.{Fault}
 use Rattle.kv_syn.specs.declared.outcomes.Outcome.{Outcome}

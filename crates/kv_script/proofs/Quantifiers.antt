@@ -3,13 +3,14 @@ use Rattle.std.proofs.Common.{ℕ, Bool, true, false, not, ◌&&◌, List, [], �
 use Rattle.std.specs.List.{list_any}
 use Rattle.std.specs.Str.{bytes_eq}
 use Rattle.std.proofs.lemmas.Bool.{or_parts, not-true, true≢false}
-use Rattle.kv_syn.specs.Trees.{Name, Term, Form, Sequent}
+use Rattle.kv_names.specs.Names.{Name}
+use Rattle.kv_trees.specs.Trees.{Term, Form, Sequent}
 use Rattle.kv_syn.specs.declared.scripts.Side.TheVariants.{L, R}
-use Rattle.kv_syn.specs.declared.symbols.Profile.{Profile}
-use Rattle.kv_syn.specs.declared.symbols.Profile.TheVariants.{Fun}
-use Rattle.kv_syn.specs.declared.symbols.Var.{Var}
-use Rattle.kv_syn.specs.declared.trees.Ref.TheVariants.{Free, Bound}
-use Rattle.kv_syn.proofs.Same.{parts, name_same}
+use Rattle.kv_names.specs.declared.symbols.Profile.{Profile}
+use Rattle.kv_names.specs.declared.symbols.Profile.TheVariants.{Fun}
+use Rattle.kv_names.specs.declared.symbols.Var.{Var}
+use Rattle.kv_trees.specs.declared.trees.Ref.TheVariants.{Free, Bound}
+use Rattle.kv_trees.proofs.Same.{parts, name_same}
 use Rattle.kv_sig.specs.FreeNames.{free_term, free_sequent, assumed_sequent}
 use Rattle.kv_sig.specs.Members.{In, here, there}
 use Rattle.kv_sig.specs.Places.{item_at}
@@ -18,7 +19,8 @@ use Rattle.kv_sig.specs.Signatures.{profile_of}
 use Rattle.kv_sig.specs.Typing.{IsTerm}
 use Rattle.kv_sig.specs.Views.{View}
 use Rattle.kv_subst.specs.Opening.{open_form}
-use Rattle.kv_calc.specs.Calculus.{Theory, Good, IsNew, variable}
+use Rattle.kv_calc.specs.Calculus.{Theory, Good, IsNew}
+use Rattle.kv_trees.specs.Variables.{variable}
 use Rattle.kv_calc.specs.Calculus as c
 use Rattle.kv_calc.proofs.Members.{Sub, in_item, every_in}
 use Rattle.kv_calc.proofs.News.{beside, good_beside, whole_beside, names_beside}

@@ -4,11 +4,11 @@ use Rattle.std.proofs.Common.{◌≡◌, ℕ, ◌+◌, List, [], ◌∷◌, map,
 use Rattle.std.specs.Prelude.{Bool, true, false, ◌||◌, ◌==◌}
 use Rattle.std.proofs.lemmas.Bool.{cases_lt, ne_eqb}
 use Rattle.std.proofs.lemmas.Bool.Decides.{same_from_decides, Decides-eqb, Decides-like}
-use Rattle.kv_syn.specs.Same.{ref_eq}
-use Rattle.kv_syn.specs.Trees.{Term, Form, Prog}
-use Rattle.kv_syn.specs.Variables.{raised_ref, refs_have, form_has, prog_has, modifies, term_any}
-use Rattle.kv_syn.specs.declared.trees.Ref.{Ref}
-use Rattle.kv_syn.specs.declared.trees.Ref.TheVariants.{Free, Bound}
+use Rattle.kv_trees.specs.Same.{ref_eq}
+use Rattle.kv_trees.specs.Trees.{Term, Form, Prog}
+use Rattle.kv_trees.specs.Variables.{raised_ref, refs_have, form_has, prog_has, modifies, term_any}
+use Rattle.kv_trees.specs.declared.trees.Ref.{Ref}
+use Rattle.kv_trees.specs.declared.trees.Ref.TheVariants.{Free, Bound}
 use Rattle.kv_subst.specs.Changing.{changed_ref, changed_form, changed_prog}
 use Rattle.kv_subst.specs.Opening.{raised_var, raised, opened, keeps, form_keeps, prog_keeps}
 use Rattle.kv_subst.specs.Opening.{raised_term}

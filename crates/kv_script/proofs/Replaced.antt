@@ -2,19 +2,20 @@
 -- that is put in.
 use Rattle.std.proofs.Common.{◌≡◌, ℕ, ◌+◌, List, [], ◌∷◌, ◌++◌, length, Option, Some, refl, sym, ap, ◌∙◌, subst, arith}
 use Rattle.std.specs.Prelude.{Bool, true, false, if◌then◌else◌}
-use Rattle.kv_syn.specs.Same.{term_eq}
-use Rattle.kv_syn.specs.Trees.{Name, Term, Terms, Form}
-use Rattle.kv_syn.specs.declared.symbols.Profile.{Profile}
-use Rattle.kv_syn.specs.declared.symbols.Profile.TheVariants.{Fun}
-use Rattle.kv_syn.specs.declared.symbols.Symbol.{Symbol}
-use Rattle.kv_syn.specs.declared.symbols.Var.{Var}
-use Rattle.kv_syn.specs.declared.trees.Ref.TheVariants.{Free, Bound}
-use Rattle.kv_syn.proofs.Same.{term_is}
+use Rattle.kv_trees.specs.Same.{term_eq}
+use Rattle.kv_names.specs.Names.{Name}
+use Rattle.kv_trees.specs.Trees.{Term, Terms, Form}
+use Rattle.kv_names.specs.declared.symbols.Profile.{Profile}
+use Rattle.kv_names.specs.declared.symbols.Profile.TheVariants.{Fun}
+use Rattle.kv_names.specs.declared.symbols.Symbol.{Symbol}
+use Rattle.kv_names.specs.declared.symbols.Var.{Var}
+use Rattle.kv_trees.specs.declared.trees.Ref.TheVariants.{Free, Bound}
+use Rattle.kv_trees.proofs.Same.{term_is}
 use Rattle.kv_sig.specs.FreeNames.{free_term, free_terms, free_form, free_prog, assumed_form, assumed_prog}
 use Rattle.kv_sig.specs.Members.{In}
 use Rattle.kv_sig.specs.Typing.{IsTerm, AreTerms, IsForm}
 use Rattle.kv_subst.specs.Opening.{raised_term}
-use Rattle.kv_subst.proofs.TypedPlaces.{term_lifted}
+use Rattle.kv_calc.proofs.TypedPlaces.{term_lifted}
 use Rattle.kv_calc.proofs.Changed.{sub_both}
 use Rattle.kv_calc.proofs.Members.{Sub, in_front, in_back}
 use Rattle.kv_calc.proofs.Openings.{free_raised}
@@ -29,7 +30,7 @@ name_is s t e = cc
 fun_is : (args others : List Name) (s t : Name) → ◌≡◌ {A = Option Profile} (Some (Fun args s)) (Some (Fun others t)) → s ≡ t
 fun_is args others s t e = cc
 
-one_sort : (sig : List Symbol) (binders : List Name) (t : Term) (s r : Name) → IsTerm sig binders t s → IsTerm sig binders t r → s ≡ r
+pub one_sort : (sig : List Symbol) (binders : List Name) (t : Term) (s r : Name) → IsTerm sig binders t s → IsTerm sig binders t r → s ≡ r
 one_sort sig binders (Term.Place (Free x)) s r h k = sym h.0 ∙ k.0
 one_sort sig binders (Term.Place (Bound n)) s r h k = name_is s r (sym h ∙ k)
 one_sort sig binders (Term.App f ts) s r h k = fun_is h.0 k.0 s r (sym h.1 ∙ k.1)
@@ -52,7 +53,7 @@ module _ (sig : List Symbol) (binders : List Name) (t u : Term) (sort : Name) (o
     terms_replaced (Terms.more v ts) [] h = absurd h
     terms_replaced (Terms.more v ts) (s ∷ sorts) h = (term_replaced v s h.0, terms_replaced ts sorts h.1)
 
-behind_typed : (sig : List Symbol) (binders : List Name) (b : Bool) (f g : Form) → IsForm sig binders f → IsForm sig binders g → IsForm sig binders (if b then f else g)
+pub behind_typed : (sig : List Symbol) (binders : List Name) (b : Bool) (f g : Form) → IsForm sig binders f → IsForm sig binders g → IsForm sig binders (if b then f else g)
 behind_typed sig binders true f g h k = h
 behind_typed sig binders false f g h k = k
 

@@ -1,13 +1,14 @@
 -- The free names of a typed tree are over sorts of the signature.
 use Rattle.std.proofs.Common.{List, [], ◌∷◌, ◌++◌, sym, subst}
-use Rattle.kv_syn.specs.Trees.{Name, Term, Terms, Form, Prog}
-use Rattle.kv_syn.specs.declared.symbols.Callee.{Callee}
-use Rattle.kv_syn.specs.declared.symbols.Callee.TheVariants.{Symbol, Assumed}
-use Rattle.kv_syn.specs.declared.symbols.Profile.{Profile}
-use Rattle.kv_syn.specs.declared.symbols.Symbol.{Symbol as SymbolRow}
-use Rattle.kv_syn.specs.declared.symbols.Var.{Var}
-use Rattle.kv_syn.specs.declared.trees.Ref.{Ref}
-use Rattle.kv_syn.specs.declared.trees.Ref.TheVariants.{Free, Bound}
+use Rattle.kv_names.specs.Names.{Name}
+use Rattle.kv_trees.specs.Trees.{Term, Terms, Form, Prog}
+use Rattle.kv_names.specs.declared.symbols.Callee.{Callee}
+use Rattle.kv_names.specs.declared.symbols.Callee.TheVariants.{Symbol, Assumed}
+use Rattle.kv_names.specs.declared.symbols.Profile.{Profile}
+use Rattle.kv_names.specs.declared.symbols.Symbol.{Symbol as SymbolRow}
+use Rattle.kv_names.specs.declared.symbols.Var.{Var}
+use Rattle.kv_trees.specs.declared.trees.Ref.{Ref}
+use Rattle.kv_trees.specs.declared.trees.Ref.TheVariants.{Free, Bound}
 use Rattle.kv_sig.specs.FreeNames.{free_ref, free_refs, free_term, free_terms, free_form, free_prog, assumed_callee, assumed_form, assumed_prog}
 use Rattle.kv_sig.specs.Members.{Every}
 use Rattle.kv_sig.specs.Typing.{IsSort, IsVariable, IsTerm, AreTerms, AreVariables, IsProcedure, IsForm, IsProg}

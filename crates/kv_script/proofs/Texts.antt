@@ -1,12 +1,13 @@
 -- What typing tells of a step's text at a good sequent.
 use Rattle.std.proofs.Common.{List, [], ◌∷◌, Ok, ◌≡◌, sym, ap, ◌∙◌, subst}
 use Rattle.std.specs.Str.{bytes_eq}
-use Rattle.kv_syn.specs.RawTrees.{RawTerm, RawForm}
+use Rattle.kv_raw.specs.RawTrees.{RawTerm, RawForm}
 use Rattle.kv_syn.specs.Scripts.{StepText}
-use Rattle.kv_syn.specs.Trees.{Name, Term, Form, Sequent}
-use Rattle.kv_syn.specs.declared.symbols.Profile.{Profile}
-use Rattle.kv_syn.specs.declared.symbols.Var.{Var}
-use Rattle.kv_syn.specs.declared.symbols.Symbol.{Symbol as SymbolRow}
+use Rattle.kv_names.specs.Names.{Name}
+use Rattle.kv_trees.specs.Trees.{Term, Form, Sequent}
+use Rattle.kv_names.specs.declared.symbols.Profile.{Profile}
+use Rattle.kv_names.specs.declared.symbols.Var.{Var}
+use Rattle.kv_names.specs.declared.symbols.Symbol.{Symbol as SymbolRow}
 use Rattle.kv_sig.specs.FreeNames.{free_term, free_form, free_forms, free_sequent, assumed_form, assumed_forms, assumed_sequent}
 use Rattle.kv_sig.specs.Members.{In, Every}
 use Rattle.kv_sig.specs.Signatures.{profile_of}

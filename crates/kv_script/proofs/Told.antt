@@ -6,7 +6,7 @@ use Rattle.kv_script.specs.Answers.{text_looks}
 use Rattle.kv_script.specs.Tallies.{or_first, Told}
 use Rattle.kv_script.specs.declared.tally.Tally.{Tally}
 use Rattle.kv_syn.specs.Scripts.{Step}
-use Rattle.kv_syn.specs.Trees.{Sequent}
+use Rattle.kv_trees.specs.Trees.{Sequent}
 use Rattle.kv_syn.specs.declared.outcomes.Fault.{Fault}
 use Rattle.kv_syn.specs.declared.outcomes.Reason.{Reason}
 

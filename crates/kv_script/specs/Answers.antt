@@ -10,7 +10,7 @@ use Rattle.kv_goal.specs.ByName.{variables_by_name, procedures_by_name}
 use Rattle.kv_sig.specs.Steps.{TypedText, TypedStep}
 use Rattle.kv_sig.specs.Views.{View}
 use Rattle.kv_syn.specs.Scripts.{Scripts, Step, StepText}
-use Rattle.kv_syn.specs.Trees.{Sequent}
+use Rattle.kv_trees.specs.Trees.{Sequent}
 use Rattle.kv_syn.specs.declared.outcomes.Look.{Look}
 use Rattle.kv_syn.specs.declared.outcomes.Look.TheVariants.{Symbol, Label}
 use Rattle.kv_syn.specs.declared.outcomes.Reason.{Reason}

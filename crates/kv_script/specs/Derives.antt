@@ -1,7 +1,8 @@
 -- A closed replay stands for a derivation.
 use Rattle.std.specs.Prelude.{IsTrue, List, [], ◌∷◌, ◌++◌, Option, Some, None}
-use Rattle.kv_syn.specs.Bridge.{plain_form}
-use Rattle.kv_syn.specs.Trees.{Form, Name}
+use Rattle.kv_trees.specs.Bridge.{plain_form}
+use Rattle.kv_names.specs.Names.{Name}
+use Rattle.kv_trees.specs.Trees.{Form}
 use Rattle.kv_syn.specs.declared.outcomes.Entry.{Entry}
 use Rattle.kv_syn.specs.declared.outcomes.Outcome.{Outcome}
 use Rattle.kv_sig.specs.FreeNames.{IsClosed}

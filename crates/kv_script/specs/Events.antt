@@ -4,7 +4,8 @@ use Rattle.kv_script.specs.Answers.{Answer, answer, text_looks}
 use Rattle.kv_script.specs.Once.{names_once, looks_once}
 use Rattle.kv_sig.specs.Views.{View}
 use Rattle.kv_syn.specs.Scripts.{Script, Scripts, Step, StepText}
-use Rattle.kv_syn.specs.Trees.{Form, Name, Sequent}
+use Rattle.kv_names.specs.Names.{Name}
+use Rattle.kv_trees.specs.Trees.{Form, Sequent}
 use Rattle.kv_syn.specs.declared.outcomes.Fault.{Fault}
 use Rattle.kv_syn.specs.declared.outcomes.Look.{Look}
 use Rattle.kv_syn.specs.declared.outcomes.Outcome.{Outcome}

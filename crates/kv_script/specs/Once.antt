@@ -2,7 +2,7 @@
 use Rattle.std.specs.Prelude.{Bool, true, false, List}
 use Rattle.std.specs.Str.{bytes_eq}
 use Rattle.kv_goal.specs.Once.{once}
-use Rattle.kv_syn.specs.Trees.{Name}
+use Rattle.kv_names.specs.Names.{Name}
 use Rattle.kv_syn.specs.declared.outcomes.Look.{Look}
 use Rattle.kv_syn.specs.declared.outcomes.Look.TheVariants.{Symbol, Label, Generation, Body, Rules}
 

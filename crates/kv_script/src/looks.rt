@@ -5,7 +5,7 @@ ghost use Rattle.kv_script.specs.Answers.{text_looks};
 ghost use Rattle.kv_syn.specs.ScriptBridge.{plain_text};
 ghost use Rattle.kv_syn.specs.declared.outcomes.Look.TheVariants.{Symbol};
 ghost use Rattle.kv_elab.specs.Names.{form_names, prog_names, term_names, terms_names, var_names};
-ghost use Rattle.kv_syn.specs.RawBridge.{raw_form, raw_prog, raw_term, raw_terms};
+ghost use Rattle.kv_raw.specs.RawBridge.{raw_form, raw_prog, raw_term, raw_terms};
 
 use kv_syn::{List, Look, Name, NoMemory, Plain, RawForm, RawProg, RawTerm, StepText, Var};
 use std::alloc::Global;

@@ -1,6 +1,9 @@
 // Why a step or a theorem is refused.
 
-ghost use Rattle.std.specs.Prelude.{◌≡◌, ◌≢◌, [], ◌∷◌, true, IfOk, OnOk};
+ghost use Rattle.std.specs.Prelude.{◌≡◌, [], ◌∷◌, true, Some, IfOk};
+ghost use Rattle.std.specs.Option.{option_map};
+ghost use Rattle.kv_elab.specs.Faults.{plain_fault};
+ghost use Rattle.kv_prop.specs.Refusals.{plain_refusal};
 ghost use Rattle.kv_script.specs.Reasons.{reason_with, refusal_reason, typing_reason};
 ghost use Rattle.kv_syn.specs.Rows.{has_reason_row};
 
@@ -49,8 +52,7 @@ fn named_two(alloc: Global, word: u32, one: &Name, two: &Name) -> Result<Reason,
 /// The reason of a refusal. Want of memory is none.
 pub fn reason_of(alloc: Global, error: StepError) -> Result<Reason, NoMemory>
     ensures rows { IfOk result (λ reason. has_reason_row reason ≡ true) }
-    ensures reason { IfOk result (λ reason. reason ≡ refusal_reason error) }
-    ensures refusal { OnOk result (error ≢ StepError.NoMemory) }
+    ensures reason { IfOk result (λ reason. option_map refusal_reason (plain_refusal error) ≡ Some reason) }
 {
     match error {
         StepError::Position => Ok(bare(alloc, reason::POSITION)),
@@ -69,8 +71,7 @@ pub fn reason_of(alloc: Global, error: StepError) -> Result<Reason, NoMemory>
 /// The reason of a fault of typing. Want of memory is none.
 pub fn typing_reason(alloc: Global, fault: TypeError) -> Result<Reason, NoMemory>
     ensures rows { IfOk result (λ reason. has_reason_row reason ≡ true) }
-    ensures reason { IfOk result (λ reason. reason ≡ typing_reason fault) }
-    ensures fault { OnOk result (fault ≢ TypeError.NoMemory) }
+    ensures reason { IfOk result (λ reason. option_map typing_reason (plain_fault fault) ≡ Some reason) }
 {
     match fault {
         TypeError::Unknown { name } => named(alloc, reason::UNKNOWN, &name),

@@ -7,7 +7,7 @@ ghost use Rattle.kv_script.specs.Derives.{Derives};
 ghost use Rattle.kv_script.specs.Events.{outcome_of, events, events_below, replay_events, visits};
 ghost use Rattle.kv_script.specs.Tallies.{Told, plain_answer};
 ghost use Rattle.kv_sig.specs.Views.{view_of};
-ghost use Rattle.kv_syn.specs.Bridge.{plain_form};
+ghost use Rattle.kv_trees.specs.Bridge.{plain_form};
 ghost use Rattle.kv_syn.specs.Rows.{has_fault_rows, has_reason_row};
 ghost use Rattle.kv_syn.specs.ScriptBridge.{plain_script, plain_scripts, plain_step};
 

@@ -5,7 +5,9 @@ use Rattle.kv_fresh.specs.States.{table_of}
 use Rattle.kv_lex.specs.declared.token.TokenKind.{TokenKind}
 use Rattle.kv_punit.specs.Commands.{Command}
 use Rattle.kv_punit.specs.Grammar as g
-use Rattle.kv_punit.specs.Readings.{Answers, ReadsCommand}
+use Rattle.kv_punit.proofs.First.{first_of}
+use Rattle.kv_punit.specs.FirstFault.{Answers, command_faults}
+use Rattle.kv_punit.specs.Readings.{ReadsCommand}
 use Rattle.kv_query.specs.Replies.{status_text}
 use Rattle.kv_session.proofs.Back.{text_reads}
 use Rattle.kv_session.proofs.Sound.{edit_spellable}
@@ -14,8 +16,7 @@ use Rattle.kv_session.specs.Answers.{Gives}
 use Rattle.kv_session.specs.Edits.{Edit, edited}
 use Rattle.kv_session.specs.declared.errors.EditError.{EditError}
 use Rattle.kv_session.specs.declared.stepping.Answer.{Answer}
-use Rattle.kv_punit.specs.Commands.{HasShortScript, plain_command}
-use Rattle.kv_punit.specs.Grammar.{IsCommand}
+use Rattle.kv_punit.specs.Commands.{plain_command}
 use Rattle.kv_punit.specs.declared.errors.TextError.TheVariants.{NoMemory}
 use Rattle.kv_punit.specs.declared.commands.Command as code
 use Rattle.kv_punit.specs.declared.commands.Command.TheVariants as variant
@@ -24,7 +25,7 @@ use Rattle.kv_session.specs.Replies.{fault_text}
 use Rattle.kv_session.specs.Sessions.{IsAnswered, IsEdited, IsTable, accepted, edit_of, refused, save, status, unread}
 use Rattle.kv_session.specs.Spellable.{IsSpellable, IsSpellableEdit}
 use Rattle.kv_syn.specs.Projects as P
-use Rattle.kv_syn.specs.Trees.{Name}
+use Rattle.kv_names.specs.Names.{Name}
 use Rattle.kv_syn.specs.declared.units.Proof.{Proof}
 use Rattle.kv_syn.specs.declared.units.Theorem.{Theorem}
 use Rattle.kv_syn.specs.declared.units.Unit as units
@@ -100,11 +101,11 @@ with_line fault line has is = absurd (let e = sym has ∙ ap fault_text is in cc
 
 -- a text that isn't read is answered with the line for its fault
 pub unread_answered : {E F : Type 0} (project : P.Project) (text : List ℕ) (fault : TextError) (line : Result (List ℕ) F) (result : Result Answer E)
-    → Answers {X = code.Command} IsCommand HasShortScript plain_command text (Err fault) → IfOk line (λ l. fault_text fault ≡ Some l) → IfOk result (λ answer. line ≡ Ok answer.bytes)
+    → Answers {X = code.Command} command_faults text (Err fault) → IfOk line (λ l. fault_text fault ≡ Some l) → IfOk result (λ answer. line ≡ Ok answer.bytes)
     → IfOk result (λ answer. answer.save ≡ false) → IfOk result (λ answer. IsAnswered project text answer.bytes answer.save project)
 unread_answered project text fault line (Ok answer) has written is unsaved =
     let told = subst (λ l. IfOk l (λ a. fault_text fault ≡ Some a)) is written in
-    subst (λ s. IsAnswered project text answer.bytes s project) (sym unsaved) (unread (with_line fault answer.bytes told, has) told)
+    subst (λ s. IsAnswered project text answer.bytes s project) (sym unsaved) (unread fault (first_of code.Command command_faults text fault (with_line fault answer.bytes told) has) told)
 unread_answered project text fault line (Err e) has written is unsaved = tt
 
 -- no other command was read

@@ -2,18 +2,15 @@
 use Rattle.std.proofs.Common.{ℕ, ◌≡◌, Bool, List, Some, None, Ok, Err, refl, sym, ap, subst, ◌∙◌}
 use Rattle.kv_fresh.specs.States.{table_of}
 use Rattle.kv_lex.specs.Tokens.{lexed}
-use Rattle.kv_lex.specs.declared.token.Token.{Token}
-use Rattle.kv_pexpr.specs.Gives.{kinds}
 use Rattle.kv_print.specs.Layout.{project_text}
+use Rattle.kv_punit.proofs.First.{faulty_unread, one_first}
+use Rattle.kv_punit.specs.FirstFault.{command_faults, text_faults}
 use Rattle.kv_punit.proofs.Lone.{one_command, one_of}
-use Rattle.kv_punit.proofs.Lone as lone
 use Rattle.kv_punit.proofs.Texts.{one_project}
 use Rattle.kv_punit.specs.Commands.{Command, HasShortScript, plain_command}
 use Rattle.kv_punit.specs.Grammar.{IsCommand}
 use Rattle.kv_punit.specs.Readings.{ReadsCommand}
 use Rattle.kv_punit.specs.declared.errors.TextError.{TextError}
-use Rattle.kv_punit.specs.declared.errors.TextError.TheVariants as error
-use Rattle.kv_punit.specs.declared.errors.Which.TheVariants.{Steps, Units, Theorems}
 use Rattle.kv_session.specs.Edits.{Edit, edited}
 use Rattle.kv_query.specs.Replies.{status_text}
 use Rattle.kv_session.specs.Replies.{accepted_text, fault_text, refused_text}
@@ -24,38 +21,12 @@ use Rattle.kv_syn.specs.declared.outcomes.Table.{Table}
 
 -- a text with a fault is no command
 no_reading : (text : List ℕ) (fault : TextError) (command : Command) → HasFault text fault → ReadsCommand text command → ⊥
-no_reading text (error.Token place) command has reads = lone.refused IsCommand HasShortScript plain_command text one_command (Err (error.Token place)) has.1 tt command reads
-no_reading text error.Version command has reads = has.1
-no_reading text error.Syntax command has reads = lone.refused IsCommand HasShortScript plain_command text one_command (Err error.Syntax) has.1 tt command reads
-no_reading text (error.Limit Steps) command has reads = lone.refused IsCommand HasShortScript plain_command text one_command (Err (error.Limit Steps)) has.1 tt command reads
-no_reading text (error.Limit Units) command has reads = has.1
-no_reading text (error.Limit Theorems) command has reads = has.1
-no_reading text error.NoMemory command has reads = has.0 refl
-
--- nothing that the tokens spell, and something that they spell
-not_both : (text : List ℕ) (tokens tokens' : List Token) (command : Command) → lexed text ≡ Ok tokens → lexed text ≡ Ok tokens' → ((c : Command) → IsCommand (kinds tokens) c → ⊥) → IsCommand (kinds tokens') command → ⊥
-not_both text tokens tokens' command is is' none some = none command (subst (λ (ts : List Token). IsCommand (kinds ts) command) (cc) some)
+no_reading text fault command has reads = faulty_unread IsCommand HasShortScript plain_command text one_command fault command has reads
 
 one_fault : (text : List ℕ) (f g : TextError) → HasFault text f → HasFault text g → f ≡ g
-one_fault text (error.Token place) (error.Token place') has has' = let e = has.1 in let e' = has'.1 in cc
-one_fault text (error.Token place) error.Syntax has has' = absurd (let e = has.1 in let e' = has'.1.1 in cc)
-one_fault text (error.Token place) (error.Limit Steps) has has' = absurd (let e = has.1 in let e' = has'.1.1 in cc)
-one_fault text error.Syntax (error.Token place) has has' = absurd (let e = has'.1 in let e' = has.1.1 in cc)
-one_fault text error.Syntax error.Syntax has has' = refl
-one_fault text error.Syntax (error.Limit Steps) has has' =
-    absurd (not_both text has.1.0 has'.1.0 has'.1.2.0 has.1.1 has'.1.1 has.1.2 has'.1.2.1)
-one_fault text (error.Limit Steps) (error.Token place) has has' = absurd (let e = has'.1 in let e' = has.1.1 in cc)
-one_fault text (error.Limit Steps) error.Syntax has has' =
-    absurd (not_both text has'.1.0 has.1.0 has.1.2.0 has'.1.1 has.1.1 has'.1.2 has.1.2.1)
-one_fault text (error.Limit Steps) (error.Limit Steps) has has' = refl
-one_fault text f error.Version has has' = absurd (has'.1)
-one_fault text f (error.Limit Units) has has' = absurd (has'.1)
-one_fault text f (error.Limit Theorems) has has' = absurd (has'.1)
-one_fault text f error.NoMemory has has' = absurd (has'.0 refl)
-one_fault text error.Version g has has' = absurd (has.1)
-one_fault text (error.Limit Units) g has has' = absurd (has.1)
-one_fault text (error.Limit Theorems) g has has' = absurd (has.1)
-one_fault text error.NoMemory g has has' = absurd (has.0 refl)
+one_fault text f g has has' =
+    let e = one_first (text_faults command_faults (lexed text)) (Some f) (Some g) has has' in
+    cc
 
 same_command : {text : List ℕ} {c d : Command} → ReadsCommand text c → ReadsCommand text d → c ≡ d
 same_command {text} {c} {d} r s = one_of IsCommand HasShortScript plain_command text one_command c d r s
@@ -97,29 +68,29 @@ abbrev IsSame : (answer answer' : List ℕ) (saves saves' : Bool) (after after' 
 IsSame answer answer' saves saves' after after' = (answer ≡ answer') × (saves ≡ saves') × (after ≡ after')
 
 one_way : {p : P.Project} {text a b : List ℕ} {s t : Bool} {q q' : P.Project} → IsAnswered p text a s q → IsAnswered p text b t q' → IsSame a b s t q q'
-one_way {text = text} (unread {fault = f} has is) (unread {fault = g} has' is') = (same_text (one_fault text f g has has') is is', refl, refl)
-one_way {text = text} (unread {fault = f} has is) (refused {command = c} r asks e) = absurd (no_reading text f c has r)
-one_way {text = text} (unread {fault = f} has is) (accepted {command = c} r asks e table) = absurd (no_reading text f c has r)
-one_way {text = text} (unread {fault = f} has is) (status r table) = absurd (no_reading text f Command.Status has r)
-one_way {text = text} (unread {fault = f} has is) (save r) = absurd (no_reading text f Command.Save has r)
-one_way {text = text} (refused {command = c} r asks e) (unread {fault = f} has is) = absurd (no_reading text f c has r)
+one_way {text = text} (unread f has is) (unread g has' is') = (same_text (one_fault text f g has has') is is', refl, refl)
+one_way {text = text} (unread f has is) (refused {command = c} r asks e) = absurd (no_reading text f c has r)
+one_way {text = text} (unread f has is) (accepted {command = c} r asks e table) = absurd (no_reading text f c has r)
+one_way {text = text} (unread f has is) (status r table) = absurd (no_reading text f Command.Status has r)
+one_way {text = text} (unread f has is) (save r) = absurd (no_reading text f Command.Save has r)
+one_way {text = text} (refused {command = c} r asks e) (unread f has is) = absurd (no_reading text f c has r)
 one_way {p = p} (refused r asks e) (refused r' asks' e') = (ap refused_text (same_refusal p (same_edit r r' asks asks') e e'), refl, refl)
 one_way {p = p} (refused r asks e) (accepted r' asks' e' table) = absurd (not_both_ways p (same_edit r' r asks' asks) e' e)
 one_way (refused r asks e) (status r' table) = absurd (no_edit r asks r' refl)
 one_way (refused r asks e) (save r') = absurd (no_edit r asks r' refl)
-one_way {text = text} (accepted {command = c} r asks e table) (unread {fault = f} has is) = absurd (no_reading text f c has r)
+one_way {text = text} (accepted {command = c} r asks e table) (unread f has is) = absurd (no_reading text f c has r)
 one_way {p = p} (accepted r asks e table) (refused r' asks' e') = absurd (not_both_ways p (same_edit r r' asks asks') e e')
 one_way {p = p} (accepted {after = q} {table = t} r asks e is) (accepted {after = q'} {table = u} r' asks' e' is') =
     let same = same_after p (same_edit r r' asks asks') e e' in
     (ap accepted_text (one_table q q' t u same is is'), refl, same)
 one_way (accepted r asks e table) (status r' table') = absurd (no_edit r asks r' refl)
 one_way (accepted r asks e table) (save r') = absurd (no_edit r asks r' refl)
-one_way {text = text} (status r table) (unread {fault = f} has is) = absurd (no_reading text f Command.Status has r)
+one_way {text = text} (status r table) (unread f has is) = absurd (no_reading text f Command.Status has r)
 one_way (status r table) (refused r' asks' e') = absurd (no_edit r' asks' r refl)
 one_way (status r table) (accepted r' asks' e' table') = absurd (no_edit r' asks' r refl)
 one_way {p = p} (status {table = t} r is) (status {table = u} r' is') = (ap status_text (one_table p p t u refl is is'), refl, refl)
 one_way (status r is) (save r') = absurd (not_save (same_command r r'))
-one_way {text = text} (save r) (unread {fault = f} has is) = absurd (no_reading text f Command.Save has r)
+one_way {text = text} (save r) (unread f has is) = absurd (no_reading text f Command.Save has r)
 one_way (save r) (refused r' asks' e') = absurd (no_edit r' asks' r refl)
 one_way (save r) (accepted r' asks' e' table) = absurd (no_edit r' asks' r refl)
 one_way (save r) (status r' table) = absurd (not_save (same_command r' r))

@@ -19,12 +19,12 @@ use Rattle.kv_session.proofs.Rules.{IsRuleWord, rule_word, cut_row}
 use Rattle.kv_session.proofs.Words.{is_word}
 use Rattle.kv_syn.specs.Projects.{Theorem, Proof, Item, Kind, Project}
 use Rattle.kv_syn.specs.Projects as P
-use Rattle.kv_syn.specs.RawTrees.{RawTerm, RawTerms, RawForm}
+use Rattle.kv_raw.specs.RawTrees.{RawTerm, RawTerms, RawForm}
 use Rattle.kv_syn.specs.Scripts.{Step, Script, Scripts}
-use Rattle.kv_syn.specs.Trees.{Name}
+use Rattle.kv_names.specs.Names.{Name}
 use Rattle.kv_syn.specs.declared.scripts.Side.TheVariants.{L, R}
-use Rattle.kv_syn.specs.declared.symbols.Var.{Var}
-use Rattle.kv_table.specs.declared.rule.TheConstants as rule
+use Rattle.kv_names.specs.declared.symbols.Var.{Var}
+use Rattle.kv_table.specs.Rules as rule
 
 -- pieces that fit before all that ends a word
 abbrev pub Leads : List Piece → Type 0

@@ -2,7 +2,7 @@
 use Rattle.std.proofs.Common.{ℕ, zero, suc, ◌≡◌, ◌≤◌, ◌<◌, List, [], ◌∷◌, ◌++◌, refl, arith}
 use Rattle.std.specs.Prelude.{true, false, codes}
 use Rattle.kv_lex.specs.Marks.{mark_rows}
-use Rattle.kv_lex.specs.declared.mark.TheConstants.{CLOSE, COMMA, EQUAL, ARROW, DOUBLE_ARROW}
+use Rattle.kv_lex.specs.Marks.{CLOSE, COMMA, EQUAL, ARROW, DOUBLE_ARROW}
 use Rattle.kv_lex.specs.declared.token.TokenKind.{TokenKind}
 use Rattle.kv_lex.specs.declared.token.TokenKind.TheVariants.{Word as WordToken, Mark as MarkToken}
 use Rattle.kv_pexpr.specs.Grammar.{IsTerm, AreTerms, IsForm, IsUna, ReadsForm, ReadsTerm}
@@ -12,12 +12,12 @@ use Rattle.kv_print.specs.Pieces.{Piece}
 use Rattle.kv_print.specs.Pieces.Piece.{Space, Word, Mark}
 use Rattle.kv_session.specs.Spellable as s
 use Rattle.kv_session.proofs.Tokens.{before, before_append}
-use Rattle.kv_syn.specs.RawCount.{raw_term_depth, raw_terms_depth, raw_form_depth}
-use Rattle.kv_syn.specs.RawTrees.{RawTerm, RawTerms, RawForm}
-use Rattle.kv_syn.specs.Trees.{Name}
-use Rattle.kv_syn.specs.declared.symbols.Var.{Var}
-use Rattle.kv_table.specs.Tables.{keyword_rows}
-use Rattle.kv_table.specs.declared.keyword.TheConstants as word
+use Rattle.kv_raw.specs.RawCount.{raw_term_depth, raw_terms_depth, raw_form_depth}
+use Rattle.kv_raw.specs.RawTrees.{RawTerm, RawTerms, RawForm}
+use Rattle.kv_names.specs.Names.{Name}
+use Rattle.kv_names.specs.declared.symbols.Var.{Var}
+use Rattle.kv_table.specs.Keywords.{keyword_rows}
+use Rattle.kv_table.specs.Keywords as word
 
 -- ---- terms
 

@@ -11,7 +11,7 @@ use Rattle.std.proofs.lemmas.Str.{chars-encodes, scalars-chars}
 use Rattle.std.proofs.lemmas.Str.Parse.{numerals_by_value, tells_all_ascii_digits, digits_value_short}
 use Rattle.unicode_ident.specs.Ident.{is_xid_start, is_xid_continue}
 use Rattle.kv_table.specs.Names.{row_of}
-use Rattle.kv_table.specs.Tables.{keyword_rows}
+use Rattle.kv_table.specs.Keywords.{keyword_rows}
 use Rattle.kv_lex.proofs.Fronts.{run_past, digit_run}
 use Rattle.kv_lex.proofs.Parts.{EndsWith, skip_part, token_part}
 use Rattle.kv_lex.specs.Tokens.{run, past, skip, word, word_or_name, number, token_at, mark, mark_of, with_rest, or_next, lexed_from, lexed, then_lexed, step, Lexed, faulty_end, place}

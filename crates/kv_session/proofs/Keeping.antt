@@ -15,7 +15,7 @@ use Rattle.kv_session.specs.declared.errors.Refusal.{Refusal}
 use Rattle.kv_session.specs.Edits.{Edit, added, changed_unit, has_theorem, is_long, limited, made, proof_put, proofs_with, theorem_added, unit_named, with_proof, with_theorem, within_limits}
 use Rattle.kv_session.specs.Kept.{Keeps, LeadsTo}
 use Rattle.kv_syn.specs.Projects as P
-use Rattle.kv_syn.specs.Trees.{Name}
+use Rattle.kv_names.specs.Names.{Name}
 
 -- ---- what an accepted edit was
 

@@ -9,7 +9,7 @@ use Rattle.std.proofs.lemmas.List.Folds.{list_any-append}
 use Rattle.unicode_ident.specs.Ident.{is_xid_start, is_xid_continue}
 use Rattle.unicode_ident.proofs.IdentLemmas.{is_xid_start-ascii, is_xid_continue-ascii}
 use Rattle.kv_lex.specs.Tokens.{past}
-use Rattle.kv_lex.specs.declared.mark.TheConstants.{DOT}
+use Rattle.kv_lex.specs.Marks.{DOT}
 use Rattle.kv_lex.specs.declared.token.TokenKind.{TokenKind}
 use Rattle.kv_lex.specs.declared.token.TokenKind.TheVariants.{Ident, Mark}
 use Rattle.kv_punit.specs.Grammar.{has_colon}
@@ -18,7 +18,7 @@ use Rattle.kv_session.specs.Spellable.{IsName, IsLabel}
 use Rattle.kv_session.specs.Spellable as s
 use Rattle.kv_session.proofs.Tokens.{label_kinds}
 use Rattle.kv_session.proofs.Words.{name_run}
-use Rattle.kv_syn.specs.Trees.{Name}
+use Rattle.kv_names.specs.Names.{Name}
 
 -- no byte of the name is that byte
 abbrev pub Lacks : ℕ → Name → Type 0

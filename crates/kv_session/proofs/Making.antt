@@ -15,7 +15,7 @@ use Rattle.kv_session.specs.declared.errors.Refusal.TheVariants.{Exists, Unknown
 use Rattle.kv_session.specs.Places.{changed_at, has_theorem_named, is_proof_named, is_unit_named, more_proofs, more_theorems, other_proof}
 use Rattle.kv_syn.specs.Projects as P
 use Rattle.kv_syn.specs.ProjectBridge.{plain_proof, plain_theorem, plain_unit}
-use Rattle.kv_syn.specs.Trees.{Name}
+use Rattle.kv_names.specs.Names.{Name}
 use Rattle.kv_syn.specs.declared.units.Proof.{Proof}
 use Rattle.kv_syn.specs.declared.units.Theorem.{Theorem}
 use Rattle.kv_syn.specs.declared.units.Unit as units

@@ -6,7 +6,7 @@ use Rattle.std.proofs.lemmas.Str.{length-encode, len_utf8_bounds, encode_ascii}
 use Rattle.unicode_ident.proofs.IdentLemmas.{is_xid_start-ascii}
 use Rattle.kv_table.specs.Names.{row_of}
 use Rattle.kv_lex.specs.declared.token.TokenKind.TheVariants.{Mark}
-use Rattle.kv_lex.specs.declared.mark.TheConstants.{OPEN, CLOSE, OPEN_BRACE, CLOSE_BRACE, COMMA, SEMICOLON, COLON, DOT, EQUAL, ARROW, DOUBLE_ARROW, BAR}
+use Rattle.kv_lex.specs.Marks.{OPEN, CLOSE, OPEN_BRACE, CLOSE_BRACE, COMMA, SEMICOLON, COLON, DOT, EQUAL, ARROW, DOUBLE_ARROW, BAR}
 use Rattle.kv_lex.specs.Marks.{mark_rows}
 use Rattle.kv_lex.specs.Tokens.{token_at, mark}
 

@@ -5,7 +5,7 @@ use Rattle.std.specs.List.{All}
 use Rattle.std.proofs.lemmas.List.Elements.{All-head, All-tail}
 use Rattle.kv_lex.specs.Marks.{mark_rows}
 use Rattle.kv_lex.specs.Tokens as lex
-use Rattle.kv_lex.specs.declared.mark.TheConstants.{CLOSE, OPEN_BRACE, CLOSE_BRACE, SEMICOLON, EQUAL, ARROW, BAR}
+use Rattle.kv_lex.specs.Marks.{CLOSE, OPEN_BRACE, CLOSE_BRACE, SEMICOLON, EQUAL, ARROW, BAR}
 use Rattle.kv_lex.specs.declared.token.TokenKind.{TokenKind}
 use Rattle.kv_lex.specs.declared.token.TokenKind.TheVariants.{Word as WordToken, Ident as IdentToken, Mark as MarkToken}
 use Rattle.kv_pexpr.specs.Grammar.{ReadsForm}
@@ -24,13 +24,13 @@ use Rattle.kv_session.proofs.Rules.{rule_word, cut_row}
 use Rattle.kv_session.proofs.Tokens.{before, before_append}
 use Rattle.kv_syn.specs.Projects.{Theorem, Proof, Item, Kind, Project}
 use Rattle.kv_syn.specs.Projects as P
-use Rattle.kv_syn.specs.RawTrees.{RawForm}
+use Rattle.kv_raw.specs.RawTrees.{RawForm}
 use Rattle.kv_syn.specs.Scripts.{Step, Script, Scripts}
-use Rattle.kv_syn.specs.Trees.{Name}
+use Rattle.kv_names.specs.Names.{Name}
 use Rattle.kv_syn.specs.declared.scripts.Side.TheVariants.{L, R}
-use Rattle.kv_syn.specs.declared.symbols.Var.{Var}
-use Rattle.kv_table.specs.Tables.{keyword_rows}
-use Rattle.kv_table.specs.declared.keyword.TheConstants as word
+use Rattle.kv_names.specs.declared.symbols.Var.{Var}
+use Rattle.kv_table.specs.Keywords.{keyword_rows}
+use Rattle.kv_table.specs.Keywords as word
 
 -- ---- scripts
 

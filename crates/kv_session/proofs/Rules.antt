@@ -11,8 +11,9 @@ use Rattle.kv_punit.specs.declared.steps.Takes.TheVariants as take
 use Rattle.kv_punit.proofs.Before.{cond_some}
 use Rattle.kv_session.proofs.Words.{is_word}
 use Rattle.kv_table.specs.Names.{row_of}
-use Rattle.kv_table.specs.Tables.{rule_rows, keyword_rows}
-use Rattle.kv_table.specs.declared.rule.TheConstants as rule
+use Rattle.kv_table.specs.Rules.{rule_rows}
+use Rattle.kv_table.specs.Keywords.{keyword_rows}
+use Rattle.kv_table.specs.Rules as rule
 
 -- the word of a rule is a name, by which the rule is found
 pub record IsRuleWord (row : ℕ) : Type 0 where

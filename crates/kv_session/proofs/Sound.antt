@@ -18,10 +18,10 @@ use Rattle.kv_session.proofs.Good.{AreGood, lexed_good}
 use Rattle.kv_session.specs.Spellable as s
 use Rattle.kv_syn.specs.Projects.{Theorem, Proof, Item, Project}
 use Rattle.kv_syn.specs.Projects as P
-use Rattle.kv_syn.specs.RawTrees.{RawTerm, RawTerms, RawForm}
+use Rattle.kv_raw.specs.RawTrees.{RawTerm, RawTerms, RawForm}
 use Rattle.kv_syn.specs.Scripts.{Step, Script, Scripts}
-use Rattle.kv_syn.specs.Trees.{Name}
-use Rattle.kv_syn.specs.declared.symbols.Var.{Var}
+use Rattle.kv_names.specs.Names.{Name}
+use Rattle.kv_names.specs.declared.symbols.Var.{Var}
 
 -- ---- terms
 

@@ -10,7 +10,7 @@ use Rattle.unicode_ident.specs.Ident.{is_xid_start, is_xid_continue}
 use Rattle.unicode_ident.proofs.IdentLemmas.{is_xid_start-ascii, is_xid_continue-ascii}
 use Rattle.kv_lex.specs.Marks.{mark_rows}
 use Rattle.kv_lex.specs.Tokens.{token_at, is_blank, word, word_or_name}
-use Rattle.kv_lex.specs.declared.mark.TheConstants.{OPEN, CLOSE, OPEN_BRACE, CLOSE_BRACE, COMMA, SEMICOLON, COLON, DOT, EQUAL, ARROW, DOUBLE_ARROW, BAR}
+use Rattle.kv_lex.specs.Marks.{OPEN, CLOSE, OPEN_BRACE, CLOSE_BRACE, COMMA, SEMICOLON, COLON, DOT, EQUAL, ARROW, DOUBLE_ARROW, BAR}
 use Rattle.kv_lex.specs.declared.token.TokenKind.{TokenKind}
 use Rattle.kv_lex.specs.declared.token.TokenKind.TheVariants.{Word, Ident, Number, Mark}
 use Rattle.kv_print.specs.Pieces.{Piece, spell}
@@ -23,9 +23,9 @@ use Rattle.kv_session.proofs.Marks as m
 use Rattle.kv_session.proofs.Runs.{Stops}
 use Rattle.kv_session.proofs.Words.{is_word, both, IsRun, word_ascii, word_run, word_token, name_run, name_token, number_token, number_ascii, number_some, number_digits, ascii_first, ascii_none}
 use Rattle.kv_session.proofs.Labels.{no_dot, name_alone, name_first}
-use Rattle.kv_syn.specs.Trees.{Name}
+use Rattle.kv_names.specs.Names.{Name}
 use Rattle.kv_table.specs.Names.{row_of}
-use Rattle.kv_table.specs.Tables.{keyword_rows}
+use Rattle.kv_table.specs.Keywords.{keyword_rows}
 
 -- ---- where a word or a number ends
 

@@ -3,13 +3,13 @@ use Rattle.std.proofs.Common.{ℕ, ◌≡◌, List, [], ◌∷◌, ◌++◌, ref
 use Rattle.std.specs.Prelude.{true, if◌then◌else◌, ◌==◌, nat_le, Option, Some, None, unwrap_or, codes, length, ◌⊎◌}
 use Rattle.kv_lex.specs.Marks.{mark_rows}
 use Rattle.kv_lex.specs.Tokens.{word}
-use Rattle.kv_lex.specs.declared.mark.TheConstants.{DOT}
+use Rattle.kv_lex.specs.Marks.{DOT}
 use Rattle.kv_lex.specs.declared.token.TokenKind.{TokenKind}
 use Rattle.kv_lex.specs.declared.token.TokenKind.TheVariants.{Ident, Number, Mark}
 use Rattle.kv_print.specs.Pieces.{Piece}
 use Rattle.kv_session.specs.Spellable.{IsName, IsLabel, IsNumber}
 use Rattle.kv_session.proofs.Words.{is_word}
-use Rattle.kv_syn.specs.Trees.{Name}
+use Rattle.kv_names.specs.Names.{Name}
 use Rattle.kv_table.specs.Names.{row_of}
 
 -- the tokens of a label: the names and the full stops between them, where `done` is the front of the first name

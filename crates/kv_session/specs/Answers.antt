@@ -3,7 +3,7 @@ use Rattle.std.specs.Prelude.{◌≡◌, ℕ, Bool, true, List, Some, None, Resu
 use Rattle.kv_syn.specs.ProjectBridge.{plain_proof, plain_theorem, plain_unit}
 use Rattle.kv_syn.specs.Projects as P
 use Rattle.kv_syn.specs.Readable.{is_readable_unit}
-use Rattle.kv_syn.specs.Trees.{Name}
+use Rattle.kv_names.specs.Names.{Name}
 use Rattle.kv_syn.specs.declared.units.Unit as units
 use Rattle.kv_session.specs.Edits as spec
 use Rattle.kv_session.specs.declared.edits.Edit.{Edit}

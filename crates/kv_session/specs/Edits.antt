@@ -3,9 +3,9 @@ use Rattle.std.specs.Prelude.{ℕ, Bool, if◌then◌else◌, List, [], ◌∷�
 use Rattle.std.specs.List.{list_any}
 use Rattle.std.specs.Str.{bytes_eq}
 use Rattle.kv_syn.specs.Projects as P
-use Rattle.kv_syn.specs.Trees.{Name}
+use Rattle.kv_names.specs.Names.{Name}
 use Rattle.kv_print.specs.Layout.{project_text}
-use Rattle.kv_punit.specs.Limits.{theorem_count}
+use Rattle.kv_punit.specs.Limits.{most_theorems, most_units, theorem_count}
 use Rattle.kv_session.specs.declared.errors.Limit.TheVariants.{Units, Theorems, Text}
 use Rattle.kv_session.specs.declared.errors.Refusal.{Refusal}
 use Rattle.kv_session.specs.declared.errors.Refusal.TheVariants.{Exists, Unknown, Limit}
@@ -65,15 +65,19 @@ made project (Edit.Add unit) = added project unit (unit_named unit.name project)
 made project (Edit.Theorem name theorem) = theorem_added project name theorem (unit_named name project)
 made project (Edit.Proof name proof) = proof_put project name proof (unit_named name project)
 
--- whether the canonical text is longer than it may be
+-- the most bytes of the canonical text
+abbrev pub text_limit : ℕ
+text_limit = 16777216
+
+-- whether the canonical text is longer than that
 unfoldable pub is_long : P.Project → Bool
-is_long project = nat_lt 16777216 (length (project_text project))
+is_long project = nat_lt text_limit (length (project_text project))
 
 -- the project, or the first limit that it passes
 abbrev pub within_limits : P.Project → Result P.Project Refusal
 within_limits project =
-    if nat_lt 500 (length project) then Err (Limit Units)
-    else (if nat_lt 5000 (theorem_count project) then Err (Limit Theorems)
+    if nat_lt most_units (length project) then Err (Limit Units)
+    else (if nat_lt most_theorems (theorem_count project) then Err (Limit Theorems)
     else (if is_long project then Err (Limit Text)
     else Ok project))
 

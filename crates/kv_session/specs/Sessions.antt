@@ -1,13 +1,12 @@
 -- What a session answers to the text of a command, and what becomes of its project.
-use Rattle.std.specs.Prelude.{ℕ, ◌≡◌, ◌≢◌, ◌⊎◌, Bool, true, false, List, Option, Some, None, Ok, Err, codes}
+use Rattle.std.specs.Prelude.{ℕ, ◌≡◌, ◌⊎◌, Bool, true, false, List, Option, Some, None, Ok, Err, codes}
 use Rattle.kv_fresh.specs.States.{table_of}
 use Rattle.kv_print.specs.Layout.{project_text}
-use Rattle.kv_punit.specs.Commands.{Command, HasShortScript, plain_command}
-use Rattle.kv_punit.specs.Grammar.{IsCommand}
+use Rattle.kv_punit.specs.Commands.{Command}
+use Rattle.kv_punit.specs.FirstFault.{TextFault, command_faults}
 use Rattle.kv_punit.specs.ReadsAs.{Reads}
-use Rattle.kv_punit.specs.Readings.{Answers, ReadsCommand}
+use Rattle.kv_punit.specs.Readings.{ReadsCommand}
 use Rattle.kv_punit.specs.declared.errors.TextError.{TextError}
-use Rattle.kv_punit.specs.declared.errors.TextError.TheVariants.{NoMemory}
 use Rattle.kv_query.specs.Replies.{status_text}
 use Rattle.kv_session.specs.Edits.{Edit, edited}
 use Rattle.kv_session.specs.Replies.{accepted_text, fault_text, refused_text}
@@ -34,7 +33,7 @@ edit_of other = None
 
 -- the text is no command, and this is its first fault
 abbrev pub HasFault : List ℕ → TextError → Type 0
-HasFault text fault = (fault ≢ NoMemory) × Answers IsCommand HasShortScript plain_command text (Err fault)
+HasFault text fault = TextFault command_faults text (Some fault)
 
 -- the table is that of the project that the canonical text reads as, checked from nothing but that text
 abbrev pub IsTable : P.Project → Table → Type 0
@@ -42,7 +41,7 @@ IsTable project table = (read : P.Project) × Reads (project_text project) read 
 
 -- the answer to a text, whether the project is stored before it is given, and the project after it
 pub data IsAnswered : (project : P.Project) → (text answer : List ℕ) → (saves : Bool) → (after : P.Project) → Type 0 where
-  unread : {project : P.Project} {text answer : List ℕ} {fault : TextError}
+  unread : {project : P.Project} {text answer : List ℕ} (fault : TextError)
       → HasFault text fault → fault_text fault ≡ Some answer
       → IsAnswered project text answer false project
   refused : {project : P.Project} {text : List ℕ} {command : Command} {edit : Edit} {refusal : Refusal}

@@ -6,18 +6,18 @@ use Rattle.kv_lex.specs.Tokens.{token_at}
 use Rattle.kv_lex.specs.declared.token.TokenKind.TheVariants.{Ident}
 use Rattle.kv_pexpr.specs.Grammar.{tree_height}
 use Rattle.kv_punit.specs.Grammar.{path_steps}
-use Rattle.kv_punit.specs.Limits.{IsWellformed, HasFewSteps, HasFewUnits, HasFewTheorems, script_steps}
+use Rattle.kv_punit.specs.Limits.{IsWellformed, HasFewSteps, HasFewUnits, HasFewTheorems, most_steps, script_steps}
 use Rattle.kv_punit.specs.Steps.{takes, numbered, with_name, with_term, with_form, sided}
 use Rattle.kv_punit.specs.declared.steps.Takes.TheVariants as take
 use Rattle.kv_session.specs.Edits.{Edit}
 use Rattle.kv_syn.specs.Projects.{Theorem, Proof, Item, Kind}
 use Rattle.kv_syn.specs.Projects as P
-use Rattle.kv_syn.specs.RawCount.{raw_form_depth, raw_term_depth}
-use Rattle.kv_syn.specs.RawTrees.{RawTerm, RawTerms, RawForm}
+use Rattle.kv_raw.specs.RawCount.{raw_form_depth, raw_term_depth}
+use Rattle.kv_raw.specs.RawTrees.{RawTerm, RawTerms, RawForm}
 use Rattle.kv_syn.specs.Scripts.{Step, Script, Scripts}
-use Rattle.kv_syn.specs.Trees.{Name}
+use Rattle.kv_names.specs.Names.{Name}
 use Rattle.kv_syn.specs.declared.scripts.Side.{Side}
-use Rattle.kv_syn.specs.declared.symbols.Var.{Var}
+use Rattle.kv_names.specs.declared.symbols.Var.{Var}
 
 -- a text that reads as one name, and so as no keyword
 pub record IsName (name : Name) : Type 0 where
@@ -125,4 +125,4 @@ pub record IsHead (unit : P.Unit) : Type 0 where
 abbrev pub IsSpellableEdit : Edit → Type 0
 IsSpellableEdit (Edit.Add unit) = IsHead unit
 IsSpellableEdit (Edit.Theorem unit theorem) = IsTheorem theorem
-IsSpellableEdit (Edit.Proof unit proof) = IsProof proof × (script_steps proof.script ≤ 50000)
+IsSpellableEdit (Edit.Proof unit proof) = IsProof proof × (script_steps proof.script ≤ most_steps)

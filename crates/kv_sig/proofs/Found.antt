@@ -7,8 +7,8 @@ use Rattle.std.specs.Prelude.{Vec}
 use Rattle.std.specs.Str.{bytes_eq}
 use Rattle.std.specs.List.{slice_get, find}
 use Rattle.std.specs.HashMap.{HashMap}
-use Rattle.kv_syn.specs.Trees.{Name}
-use Rattle.kv_syn.specs.declared.symbols.Symbol.{Symbol}
+use Rattle.kv_names.specs.Names.{Name}
+use Rattle.kv_names.specs.declared.symbols.Symbol.{Symbol}
 use Rattle.kv_sig.specs.Index.{told, IsIndex, if_named, at_place}
 
 pub find_none : {X : Type 0} (t : X → Bool) (xs : List X) → find t xs ≡ None → (i : ℕ) (s : X) → slice_get xs i ≡ Some s → t s ≡ false

@@ -12,9 +12,9 @@ use Rattle.std.specs.List.{slice_get, find, IsDistinct}
 use Rattle.std.specs.Option.{option_map}
 use Rattle.std.specs.Map.{lookup, IsKeyTest, AreApart, KeepsOthers}
 use Rattle.std.specs.HashMap.{HashMap, Updates}
-use Rattle.kv_syn.specs.Trees.{Name}
-use Rattle.kv_syn.specs.declared.symbols.Symbol.{Symbol}
-use Rattle.kv_syn.specs.declared.memory.NoMemory.{NoMemory}
+use Rattle.kv_names.specs.Names.{Name}
+use Rattle.kv_names.specs.declared.symbols.Symbol.{Symbol}
+use Rattle.kv_names.specs.declared.memory.NoMemory.{NoMemory}
 use Rattle.kv_sig.specs.Signatures.{profile_of, names_of}
 use Rattle.kv_sig.specs.Index.{told, IsIndex}
 use Rattle.kv_sig.proofs.Found.{find_none}

@@ -3,8 +3,8 @@ use Rattle.std.specs.Prelude.{◌≡◌, ℕ, if◌then◌else◌, List, Option,
 use Rattle.std.specs.Str.{bytes_eq}
 use Rattle.std.specs.List.{slice_get}
 use Rattle.std.specs.HashMap.{HashMap, get_by}
-use Rattle.kv_syn.specs.Trees.{Name}
-use Rattle.kv_syn.specs.declared.symbols.Symbol.{Symbol}
+use Rattle.kv_names.specs.Names.{Name}
+use Rattle.kv_names.specs.declared.symbols.Symbol.{Symbol}
 
 -- what the table tells of a name
 abbrev pub told : {A S : Type 0} → HashMap (Vec ℕ A) ℕ S → Name → Option ℕ

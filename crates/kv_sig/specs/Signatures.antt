@@ -1,13 +1,12 @@
 -- Signatures as lists of symbols.
-use Rattle.std.specs.Prelude.{◌≡◌, Bool, true, false, ◌&&◌, if◌then◌else◌, List, [], ◌∷◌, ◌++◌, Option, Some, None, Result, Ok, Err, OnErr, map}
+use Rattle.std.specs.Prelude.{◌≡◌, if◌then◌else◌, List, [], ◌∷◌, ◌++◌, Option, Some, None, Result, Ok, Err, OnErr, map}
 use Rattle.std.specs.Str.{bytes_eq}
-use Rattle.std.specs.Cmp.Lexicographic.{pointwise}
 use Rattle.std.specs.List.{find}
 use Rattle.std.specs.Option.{option_map}
-use Rattle.kv_syn.specs.Trees.{Name}
-use Rattle.kv_syn.specs.declared.symbols.Profile.{Profile}
-use Rattle.kv_syn.specs.declared.symbols.Profile.TheVariants.{Sort, Fun, Pred, Proc}
-use Rattle.kv_syn.specs.declared.symbols.Symbol.{Symbol}
+use Rattle.kv_names.specs.Names.{Name}
+use Rattle.kv_names.specs.declared.symbols.Profile.{Profile}
+use Rattle.kv_names.specs.declared.symbols.Symbol.{Symbol}
+use Rattle.kv_trees.specs.Same.{profile_eq}
 use Rattle.kv_sig.specs.declared.sigs.SigError.{SigError}
 use Rattle.kv_sig.specs.declared.sigs.SigError.TheVariants.{Clash, NoMemory}
 
@@ -17,16 +16,6 @@ profile_of sig name = option_map (λ x. x.profile) (find (λ x. bytes_eq x.name 
 
 abbrev pub names_of : List Symbol → List Name
 names_of sig = map (λ x. x.name) sig
-
-abbrev pub names_eq : List Name → List Name → Bool
-names_eq = pointwise bytes_eq
-
-abbrev pub profile_eq : Profile → Profile → Bool
-profile_eq Sort Sort = true
-profile_eq (Fun args result) (Fun args_2 result_2) = names_eq args args_2 && bytes_eq result result_2
-profile_eq (Pred args) (Pred args_2) = names_eq args args_2
-profile_eq (Proc values refs) (Proc values_2 refs_2) = names_eq values values_2 && names_eq refs refs_2
-profile_eq _ _ = false
 
 -- the signature with one more symbol, where `there` is the profile that its name has so far
 abbrev pub added_where : Option Profile → List Symbol → Symbol → Result (List Symbol) SigError

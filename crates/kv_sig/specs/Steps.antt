@@ -1,7 +1,8 @@
 -- Steps after typing, as plain data.
 use Rattle.std.specs.Prelude.{ℕ, ◌==◌, if◌then◌else◌, List, [], ◌∷◌, Option}
-use Rattle.kv_syn.specs.Bridge.{plain_term, plain_form}
-use Rattle.kv_syn.specs.Trees.{Name, Term, Form}
+use Rattle.kv_trees.specs.Bridge.{plain_term, plain_form}
+use Rattle.kv_names.specs.Names.{Name}
+use Rattle.kv_trees.specs.Trees.{Term, Form}
 use Rattle.kv_syn.specs.declared.scripts.Side.{Side}
 use Rattle.kv_syn.specs.declared.scripts.TypedStep.{TypedStep as StepRow}
 use Rattle.kv_syn.specs.declared.scripts.TypedText.{TypedText as TextRow}

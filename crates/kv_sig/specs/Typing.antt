@@ -2,13 +2,14 @@
 -- stand around a tree are listed from the innermost on, as Bound numbers count them.
 use Rattle.std.specs.Prelude.{◌≡◌, Bool, true, false, ◌||◌, List, [], ◌∷◌, Some}
 use Rattle.std.specs.List.{slice_get}
-use Rattle.kv_syn.specs.Trees.{Name, Term, Terms, Form, Prog}
-use Rattle.kv_syn.specs.declared.symbols.Profile.TheVariants.{Sort, Fun, Pred, Proc}
-use Rattle.kv_syn.specs.declared.symbols.Symbol.{Symbol as SymbolRow}
-use Rattle.kv_syn.specs.declared.symbols.Callee.{Callee}
-use Rattle.kv_syn.specs.declared.symbols.Callee.TheVariants.{Symbol, Assumed}
-use Rattle.kv_syn.specs.declared.trees.Ref.{Ref}
-use Rattle.kv_syn.specs.declared.trees.Ref.TheVariants.{Free, Bound}
+use Rattle.kv_names.specs.Names.{Name}
+use Rattle.kv_trees.specs.Trees.{Term, Terms, Form, Prog}
+use Rattle.kv_names.specs.declared.symbols.Profile.TheVariants.{Sort, Fun, Pred, Proc}
+use Rattle.kv_names.specs.declared.symbols.Symbol.{Symbol as SymbolRow}
+use Rattle.kv_names.specs.declared.symbols.Callee.{Callee}
+use Rattle.kv_names.specs.declared.symbols.Callee.TheVariants.{Symbol, Assumed}
+use Rattle.kv_trees.specs.declared.trees.Ref.{Ref}
+use Rattle.kv_trees.specs.declared.trees.Ref.TheVariants.{Free, Bound}
 use Rattle.kv_sig.specs.Members.{Every, Distinct}
 use Rattle.kv_sig.specs.Signatures.{profile_of}
 

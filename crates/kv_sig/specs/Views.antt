@@ -3,12 +3,13 @@ use Rattle.std.specs.Prelude.{◌≡◌, List, Option}
 use Rattle.std.specs.List.{find}
 use Rattle.std.specs.Option.{option_map}
 use Rattle.std.specs.Str.{bytes_eq}
-use Rattle.kv_syn.specs.Bridge.{plain_form}
-use Rattle.kv_syn.specs.Trees.{Name, Form}
+use Rattle.kv_trees.specs.Bridge.{plain_form}
+use Rattle.kv_names.specs.Names.{Name}
+use Rattle.kv_trees.specs.Trees.{Form}
 use Rattle.kv_syn.specs.declared.outcomes.Entry.{Entry}
 use Rattle.kv_syn.specs.declared.outcomes.Look.{Look}
 use Rattle.kv_syn.specs.declared.outcomes.Look.TheVariants.{Symbol, Label}
-use Rattle.kv_syn.specs.declared.symbols.Profile.{Profile}
+use Rattle.kv_names.specs.declared.symbols.Profile.{Profile}
 use Rattle.kv_sig.specs.Signatures.{profile_of}
 use Rattle.kv_sig.specs.declared.flats.Flat.{Flat}
 

@@ -1,7 +1,7 @@
 // Comparison of profiles.
 
 ghost use Rattle.std.specs.Prelude.{◌≡◌};
-ghost use Rattle.kv_sig.specs.Signatures.{names_eq, profile_eq};
+ghost use Rattle.kv_trees.specs.Same.{names_eq, profile_eq};
 
 use crate::names::same_name;
 use kv_syn::{Name, Profile};

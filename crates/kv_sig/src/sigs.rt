@@ -47,7 +47,7 @@ pub struct Sig {
 
 impl Model for Sig {
     ghost use Rattle.std.specs.Prelude.{List};
-    ghost use Rattle.kv_syn.specs.declared.symbols.Symbol.{Symbol};
+    ghost use Rattle.kv_names.specs.declared.symbols.Symbol.{Symbol};
 
     ghost Value = { List Symbol };
 

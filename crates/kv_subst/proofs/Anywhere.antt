@@ -1,10 +1,10 @@
 -- A free variable is called the same under any number of binders.
 use Rattle.std.proofs.Common.{◌≡◌, ℕ, ◌+◌, refl}
 use Rattle.std.specs.Prelude.{◌||◌}
-use Rattle.kv_syn.specs.Trees.{Form, Prog}
-use Rattle.kv_syn.specs.declared.symbols.Var.{Var}
-use Rattle.kv_syn.specs.declared.trees.Ref.TheVariants.{Free}
-use Rattle.kv_syn.specs.Variables.{term_has, form_has, prog_has}
+use Rattle.kv_trees.specs.Trees.{Form, Prog}
+use Rattle.kv_names.specs.declared.symbols.Var.{Var}
+use Rattle.kv_trees.specs.declared.trees.Ref.TheVariants.{Free}
+use Rattle.kv_trees.specs.Variables.{term_has, form_has, prog_has}
 
 module _ (x : Var) where
   mutual

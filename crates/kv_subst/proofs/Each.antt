@@ -1,10 +1,10 @@
 -- Terms one by one and as a list.
 use Rattle.std.proofs.Common.{◌≡◌, ℕ, ◌≤◌, List, [], ◌∷◌, length, take, map, refl, ap, ◌∙◌, take_all}
-use Rattle.kv_syn.specs.Trees as P
-use Rattle.kv_syn.specs.Bridge.{plain_term, plain_terms, terms_of}
-use Rattle.kv_syn.specs.declared.trees.Ref.{Ref}
-use Rattle.kv_syn.specs.declared.trees.Term.{Term}
-use Rattle.kv_syn.specs.Variables.{raised_ref}
+use Rattle.kv_trees.specs.Trees as P
+use Rattle.kv_trees.specs.Bridge.{plain_term, plain_terms, terms_of}
+use Rattle.kv_trees.specs.declared.trees.Ref.{Ref}
+use Rattle.kv_trees.specs.declared.trees.Term.{Term}
+use Rattle.kv_trees.specs.Variables.{raised_ref}
 use Rattle.kv_subst.specs.Changing.{changed_term, changed_terms}
 use Rattle.kv_subst.specs.Opening.{raised_term, raised_terms}
 

@@ -2,11 +2,11 @@
 use Rattle.std.proofs.Common.{◌≡◌, ℕ, ◌+◌, List, [], ◌∷◌, inl, inr}
 use Rattle.std.specs.Prelude.{true, false, ◌&&◌}
 use Rattle.std.proofs.lemmas.Bool.{and_parts, or_parts, or_cases, not-true}
-use Rattle.kv_syn.specs.Same.{ref_eq}
-use Rattle.kv_syn.specs.Trees.{Term, Form, Prog}
-use Rattle.kv_syn.specs.declared.trees.Ref.{Ref}
-use Rattle.kv_syn.specs.declared.trees.Ref.TheVariants.{Bound}
-use Rattle.kv_syn.specs.Variables.{raised_ref, refs_have, modifies}
+use Rattle.kv_trees.specs.Same.{ref_eq}
+use Rattle.kv_trees.specs.Trees.{Term, Form, Prog}
+use Rattle.kv_trees.specs.declared.trees.Ref.{Ref}
+use Rattle.kv_trees.specs.declared.trees.Ref.TheVariants.{Bound}
+use Rattle.kv_trees.specs.Variables.{raised_ref, refs_have, modifies}
 use Rattle.kv_subst.specs.Opening.{opened, keeps, form_keeps, prog_keeps, is_new, is_admissible, prog_is_admissible}
 use Rattle.kv_subst.specs.Fitting.{AllRefs, IsPlace, FormFits, ProgFits}
 use Rattle.kv_subst.proofs.Single.{not_here_fits, variable_fits}

@@ -1,10 +1,10 @@
 -- Which variables are free in a changed tree, and which a changed program modifies: r there, where `mix` says so of s and t before.
 use Rattle.std.proofs.Common.{◌≡◌, ℕ, ◌+◌, List, [], ◌∷◌, map, sym, ◌∙◌}
 use Rattle.std.specs.Prelude.{Bool, false, ◌||◌}
-use Rattle.kv_syn.specs.Same.{ref_eq}
-use Rattle.kv_syn.specs.Trees.{Term, Terms, Form, Prog}
-use Rattle.kv_syn.specs.declared.trees.Ref.{Ref}
-use Rattle.kv_syn.specs.Variables.{raised_ref, term_has, terms_have, refs_have, form_has, prog_has, modifies}
+use Rattle.kv_trees.specs.Same.{ref_eq}
+use Rattle.kv_trees.specs.Trees.{Term, Terms, Form, Prog}
+use Rattle.kv_trees.specs.declared.trees.Ref.{Ref}
+use Rattle.kv_trees.specs.Variables.{raised_ref, term_has, terms_have, refs_have, form_has, prog_has, modifies}
 use Rattle.kv_subst.specs.Changing.{Change, changed_term, changed_terms, changed_ref, changed_form, changed_prog}
 use Rattle.kv_subst.specs.Fitting.{AllRefs, FormRefs, ProgRefs}
 

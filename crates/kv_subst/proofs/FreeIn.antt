@@ -3,13 +3,14 @@ use Rattle.std.proofs.Common.{◌≡◌, ℕ, ◌+◌, ◌-◌, ◌<◌, ◌≤�
 use Rattle.std.specs.Prelude.{Bool, true, false, not, ◌&&◌, ◌||◌, ◌==◌}
 use Rattle.std.proofs.lemmas.Bool.{cond-true, cond-false, cases_lt, cases_order, cases_Bool, ne_eqb, eq-eqb, true≢false}
 use Rattle.std.proofs.lemmas.Bool.Decides.{same_from_decides, Decides-eqb, Decides-like}
-use Rattle.kv_syn.specs.Same.{var_eq, ref_eq}
-use Rattle.kv_syn.proofs.Same.{var_is, ref_same}
-use Rattle.kv_syn.specs.Trees.{Name, Term, Terms}
-use Rattle.kv_syn.specs.declared.symbols.Var.{Var}
-use Rattle.kv_syn.specs.declared.trees.Ref.{Ref}
-use Rattle.kv_syn.specs.declared.trees.Ref.TheVariants.{Free, Bound}
-use Rattle.kv_syn.specs.Variables.{raised_ref, term_has, terms_have}
+use Rattle.kv_trees.specs.Same.{var_eq, ref_eq}
+use Rattle.kv_trees.proofs.Same.{var_is, ref_same}
+use Rattle.kv_names.specs.Names.{Name}
+use Rattle.kv_trees.specs.Trees.{Term, Terms}
+use Rattle.kv_names.specs.declared.symbols.Var.{Var}
+use Rattle.kv_trees.specs.declared.trees.Ref.{Ref}
+use Rattle.kv_trees.specs.declared.trees.Ref.TheVariants.{Free, Bound}
+use Rattle.kv_trees.specs.Variables.{raised_ref, term_has, terms_have}
 use Rattle.kv_subst.specs.Changing.{variable_or}
 use Rattle.kv_subst.specs.Opening.{raised_term, raised_terms, opened, closed_var, renamed_var}
 use Rattle.kv_subst.specs.Fitting.{IsPlace}

@@ -1,6 +1,6 @@
 -- A change under one binder more.
 use Rattle.std.proofs.Common.{◌≡◌, ℕ, ◌+◌, refl}
-use Rattle.kv_syn.specs.Trees.{Form, Prog}
+use Rattle.kv_trees.specs.Trees.{Form, Prog}
 use Rattle.kv_subst.specs.Changing.{Change, changed_term, changed_form, changed_prog}
 
 abbrev pub inside : Change → Change

@@ -13,8 +13,4 @@ pub mod Fits
 pub mod FreeIn
 pub mod Proved
 pub mod Renamings
-pub mod Typed
-pub mod Backs
-pub mod TypedPlaces
-pub mod Apart
-pub mod Typings
+pub mod Judged

@@ -1,11 +1,12 @@
 -- An opening and another change of one variable, in either order.
 use Rattle.std.proofs.Common.{◌≡◌, ℕ, ◌+◌, ◌-◌, ◌<◌, refl, sym, ap, ◌∙◌, subst, inl, inr, arith}
 use Rattle.std.proofs.lemmas.Bool.{cases_lt, cases_order}
-use Rattle.kv_syn.specs.Trees.{Name, Term}
-use Rattle.kv_syn.specs.declared.symbols.Var.{Var}
-use Rattle.kv_syn.specs.declared.trees.Ref.{Ref}
-use Rattle.kv_syn.specs.declared.trees.Ref.TheVariants.{Free, Bound}
-use Rattle.kv_syn.specs.Variables.{raised_ref}
+use Rattle.kv_names.specs.Names.{Name}
+use Rattle.kv_trees.specs.Trees.{Term}
+use Rattle.kv_names.specs.declared.symbols.Var.{Var}
+use Rattle.kv_trees.specs.declared.trees.Ref.{Ref}
+use Rattle.kv_trees.specs.declared.trees.Ref.TheVariants.{Free, Bound}
+use Rattle.kv_trees.specs.Variables.{raised_ref}
 use Rattle.kv_subst.specs.Changing.{changed_term, changed_ref, variable_or}
 use Rattle.kv_subst.specs.Opening.{raised_var, raised, raised_term, opened, renamed_var, renamed}
 use Rattle.kv_subst.specs.Fitting.{IsPlace}

@@ -2,12 +2,13 @@
 use Rattle.std.proofs.Common.{◌≡◌, ℕ, ◌+◌, refl, sym, ap, ◌∙◌}
 use Rattle.std.specs.Prelude.{Bool, true, false, not, ◌&&◌, ◌||◌, Some, None}
 use Rattle.std.proofs.lemmas.Bool.{cond-true, or_right}
-use Rattle.kv_syn.specs.Same.{ref_eq}
-use Rattle.kv_syn.specs.Trees.{Name, Term, Form, Prog}
-use Rattle.kv_syn.specs.declared.symbols.Var.{Var}
-use Rattle.kv_syn.specs.declared.trees.Ref.{Ref}
-use Rattle.kv_syn.specs.declared.trees.Ref.TheVariants.{Free, Bound}
-use Rattle.kv_syn.specs.Variables.{raised_ref, term_has, form_has, prog_has, modifies}
+use Rattle.kv_trees.specs.Same.{ref_eq}
+use Rattle.kv_names.specs.Names.{Name}
+use Rattle.kv_trees.specs.Trees.{Term, Form, Prog}
+use Rattle.kv_names.specs.declared.symbols.Var.{Var}
+use Rattle.kv_trees.specs.declared.trees.Ref.{Ref}
+use Rattle.kv_trees.specs.declared.trees.Ref.TheVariants.{Free, Bound}
+use Rattle.kv_trees.specs.Variables.{raised_ref, term_has, form_has, prog_has, modifies}
 use Rattle.kv_subst.specs.Changing.{Change, changed_term, changed_ref, variable_or, changed_form, changed_prog}
 use Rattle.kv_subst.specs.Opening.{raised, raised_term, raised_var, opened, closed, closed_var, renamed, is_admissible, form_keeps, is_new, close_form, close_prog}
 use Rattle.kv_subst.specs.Fitting.{FormRefs, ProgRefs, IsPlace, FormFits, ProgFits}
@@ -22,7 +23,7 @@ use Rattle.kv_subst.proofs.Anywhere.{form_anywhere, prog_anywhere}
 use Rattle.kv_subst.proofs.Found.{form_found, prog_found, mod_found}
 use Rattle.kv_subst.proofs.FreeIn.{or_joined, and_joined, place_opened, ref_as_term, place_renamed, place_closed}
 use Rattle.kv_subst.proofs.Fits.{admissible_fits, prog_admissible_fits}
-use Rattle.kv_syn.proofs.Depths.{form_within, prog_within}
+use Rattle.kv_trees.proofs.Depths.{form_within, prog_within}
 
 -- no condition on references
 abbrev Any : ℕ → Ref → Type 0

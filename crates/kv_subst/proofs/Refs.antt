@@ -1,7 +1,7 @@
 -- What holds of every variable holds of each assigned variable and each reference of a tree.
 use Rattle.std.proofs.Common.{ℕ, ◌+◌, List, [], ◌∷◌}
-use Rattle.kv_syn.specs.Trees.{Form, Prog}
-use Rattle.kv_syn.specs.declared.trees.Ref.{Ref}
+use Rattle.kv_trees.specs.Trees.{Form, Prog}
+use Rattle.kv_trees.specs.declared.trees.Ref.{Ref}
 use Rattle.kv_subst.specs.Fitting.{AllRefs, FormRefs, ProgRefs}
 
 module _ (P : ℕ → Ref → Type 0) (all : (k : ℕ) (r : Ref) → P k r) where

@@ -3,13 +3,14 @@ use Rattle.std.proofs.Common.{◌≡◌, ℕ, ◌+◌, refl, sym, ap, ◌∙◌,
 use Rattle.std.specs.Prelude.{Bool, true, false, not, ◌&&◌, ◌||◌, if◌then◌else◌, Some, None}
 use Rattle.std.specs.Option.{option_map}
 use Rattle.std.proofs.lemmas.Bool.{cond-true, cond-false, cases_Bool, or_parts, or_from}
-use Rattle.kv_syn.specs.Same.{var_eq, ref_eq}
-use Rattle.kv_syn.proofs.Same.{var_is, ref_same}
-use Rattle.kv_syn.specs.Trees.{Name, Term, Terms, Form, Prog}
-use Rattle.kv_syn.specs.declared.symbols.Var.{Var}
-use Rattle.kv_syn.specs.declared.trees.Ref.{Ref}
-use Rattle.kv_syn.specs.declared.trees.Ref.TheVariants.{Free, Bound}
-use Rattle.kv_syn.specs.Variables.{raised_ref, term_any, terms_any, term_has, terms_have, refs_have, form_has, prog_has, modifies}
+use Rattle.kv_trees.specs.Same.{var_eq, ref_eq}
+use Rattle.kv_trees.proofs.Same.{var_is, ref_same}
+use Rattle.kv_names.specs.Names.{Name}
+use Rattle.kv_trees.specs.Trees.{Term, Terms, Form, Prog}
+use Rattle.kv_names.specs.declared.symbols.Var.{Var}
+use Rattle.kv_trees.specs.declared.trees.Ref.{Ref}
+use Rattle.kv_trees.specs.declared.trees.Ref.TheVariants.{Free, Bound}
+use Rattle.kv_trees.specs.Variables.{raised_ref, term_any, terms_any, term_has, terms_have, refs_have, form_has, prog_has, modifies}
 use Rattle.kv_subst.specs.Changing.{changed_term, changed_terms, changed_form, changed_prog}
 use Rattle.kv_subst.specs.Opening.{opened, renamed_var, renamed, keeps, form_keeps, prog_keeps, is_new, is_admissible}
 use Rattle.kv_subst.specs.Laws as law

@@ -2,13 +2,14 @@
 use Rattle.std.proofs.Common.{◌≡◌, ℕ, ◌+◌, ◌-◌, ◌<◌, ◌≤◌, refl, sym, ap, ◌∙◌, subst, inl, inr, arith}
 use Rattle.std.specs.Prelude.{false, ◌==◌, nat_lt, if◌then◌else◌}
 use Rattle.std.proofs.lemmas.Bool.{cond-true, cond-false, lt-ltb, le-ltb, eq-eqb, ne_eqb, eqb-false, cases_lt, cases_order, cases_Bool}
-use Rattle.kv_syn.specs.Same.{var_eq, ref_eq}
-use Rattle.kv_syn.proofs.Same.{var_is}
-use Rattle.kv_syn.specs.Trees.{Name, Term, Terms}
-use Rattle.kv_syn.specs.declared.symbols.Var.{Var}
-use Rattle.kv_syn.specs.declared.trees.Ref.{Ref}
-use Rattle.kv_syn.specs.declared.trees.Ref.TheVariants.{Free, Bound}
-use Rattle.kv_syn.specs.Variables.{raised_ref}
+use Rattle.kv_trees.specs.Same.{var_eq, ref_eq}
+use Rattle.kv_trees.proofs.Same.{var_is}
+use Rattle.kv_names.specs.Names.{Name}
+use Rattle.kv_trees.specs.Trees.{Term, Terms}
+use Rattle.kv_names.specs.declared.symbols.Var.{Var}
+use Rattle.kv_trees.specs.declared.trees.Ref.{Ref}
+use Rattle.kv_trees.specs.declared.trees.Ref.TheVariants.{Free, Bound}
+use Rattle.kv_trees.specs.Variables.{raised_ref}
 use Rattle.kv_subst.specs.Changing.{changed_term, changed_terms, changed_ref, variable_or}
 use Rattle.kv_subst.specs.Opening.{raised_var, raised, raised_term, opened, closed_var, renamed}
 use Rattle.kv_subst.specs.Fitting.{IsPlace}

@@ -1,8 +1,8 @@
 -- How far a change goes, in numbers that are easier to have.
 use Rattle.std.proofs.Common.{ℕ, ◌+◌, ◌≤◌, max, List, [], ◌∷◌, arith}
-use Rattle.kv_syn.specs.Trees.{Term, Terms, Form, Prog}
-use Rattle.kv_syn.specs.declared.trees.Ref.{Ref}
-use Rattle.kv_syn.specs.Variables.{form_binders, prog_binders}
+use Rattle.kv_trees.specs.Trees.{Term, Terms, Form, Prog}
+use Rattle.kv_trees.specs.declared.trees.Ref.{Ref}
+use Rattle.kv_trees.specs.Variables.{form_binders, prog_binders}
 use Rattle.kv_subst.specs.Sizes.{ref_reach, refs_reach, term_reach, terms_reach, form_reach, prog_reach}
 use Rattle.kv_subst.specs.Tops.{term_top, terms_top, refs_top, form_top, prog_top}
 

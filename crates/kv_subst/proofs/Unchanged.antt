@@ -1,7 +1,7 @@
 -- The change that leaves each variable leaves the tree.
 use Rattle.std.proofs.Common.{◌≡◌, ℕ, ◌+◌, List, [], ◌∷◌, map, refl}
-use Rattle.kv_syn.specs.Trees.{Term, Terms, Form, Prog}
-use Rattle.kv_syn.specs.declared.trees.Ref.{Ref}
+use Rattle.kv_trees.specs.Trees.{Term, Terms, Form, Prog}
+use Rattle.kv_trees.specs.declared.trees.Ref.{Ref}
 use Rattle.kv_subst.specs.Changing.{Change, changed_term, changed_terms, changed_ref, changed_form, changed_prog}
 
 abbrev pub left : Change

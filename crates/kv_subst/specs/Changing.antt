@@ -1,8 +1,8 @@
 -- Putting terms for the variables of a tree. A change tells what a variable becomes that stands under k binders; what it
 -- gives is already the term as it is called there.
 use Rattle.std.specs.Prelude.{ℕ, ◌+◌, map}
-use Rattle.kv_syn.specs.Trees.{Term, Terms, Form, Prog}
-use Rattle.kv_syn.specs.declared.trees.Ref.{Ref}
+use Rattle.kv_trees.specs.Trees.{Term, Terms, Form, Prog}
+use Rattle.kv_trees.specs.declared.trees.Ref.{Ref}
 
 -- by the number of binders that were passed, and the variable
 abbrev pub Change : Type 0

@@ -1,7 +1,7 @@
 -- What holds of each assigned variable and each reference of a tree.
 use Rattle.std.specs.Prelude.{ℕ, ◌+◌, List, [], ◌∷◌}
-use Rattle.kv_syn.specs.Trees.{Term, Form, Prog}
-use Rattle.kv_syn.specs.declared.trees.Ref.{Ref}
+use Rattle.kv_trees.specs.Trees.{Term, Form, Prog}
+use Rattle.kv_trees.specs.declared.trees.Ref.{Ref}
 use Rattle.kv_subst.specs.Changing.{Change}
 
 abbrev pub AllRefs : (Ref → Type 0) → List Ref → Type 0

@@ -1,13 +1,14 @@
 -- Laws of raising, opening, closing and renaming, each for formulas and for programs, under any number of binders.
 use Rattle.std.specs.Prelude.{◌≡◌, ℕ, ◌+◌, ◌≤◌, true, false, not, ◌&&◌, ◌||◌, Some}
 use Rattle.std.specs.Option.{option_map}
-use Rattle.kv_syn.specs.Same.{ref_eq}
-use Rattle.kv_syn.specs.Trees.{Name, Term, Form, Prog}
-use Rattle.kv_syn.specs.Count.{form_depth, prog_depth}
-use Rattle.kv_syn.specs.declared.symbols.Var.{Var}
-use Rattle.kv_syn.specs.declared.trees.Ref.{Ref}
-use Rattle.kv_syn.specs.declared.trees.Ref.TheVariants.{Free, Bound}
-use Rattle.kv_syn.specs.Variables.{raised_ref, term_has, form_has, prog_has, modifies, form_binders, prog_binders}
+use Rattle.kv_trees.specs.Same.{ref_eq}
+use Rattle.kv_names.specs.Names.{Name}
+use Rattle.kv_trees.specs.Trees.{Term, Form, Prog}
+use Rattle.kv_trees.specs.Count.{form_depth, prog_depth}
+use Rattle.kv_names.specs.declared.symbols.Var.{Var}
+use Rattle.kv_trees.specs.declared.trees.Ref.{Ref}
+use Rattle.kv_trees.specs.declared.trees.Ref.TheVariants.{Free, Bound}
+use Rattle.kv_trees.specs.Variables.{raised_ref, term_has, form_has, prog_has, modifies, form_binders, prog_binders}
 use Rattle.kv_subst.specs.Changing.{changed_term, changed_form, changed_prog}
 use Rattle.kv_subst.specs.Opening.{raised, raised_term, opened, renamed, is_admissible, prog_is_admissible, open_form, open_prog, close_form, close_prog, rename_term, rename_form, rename_prog}
 use Rattle.kv_subst.specs.Fitting.{FormFits, ProgFits}

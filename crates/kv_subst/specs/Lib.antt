@@ -4,6 +4,6 @@ pub mod Sizes
 pub mod Gives
 pub mod Tops
 pub mod Work
+pub mod TermAt
 pub mod Fitting
 pub mod Laws
-pub mod Typings

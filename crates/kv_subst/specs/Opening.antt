@@ -1,11 +1,12 @@
 -- Raising, opening, closing and renaming, as changes of variables, and when an opening is admissible.
 use Rattle.std.specs.Prelude.{ℕ, ◌+◌, ◌-◌, Bool, true, false, not, ◌&&◌, ◌||◌, ◌==◌, nat_lt, if◌then◌else◌, Option, Some, None}
-use Rattle.kv_syn.specs.Same.{var_eq}
-use Rattle.kv_syn.specs.Trees.{Name, Term, Terms, Form, Prog}
-use Rattle.kv_syn.specs.declared.symbols.Var.{Var}
-use Rattle.kv_syn.specs.declared.trees.Ref.{Ref}
-use Rattle.kv_syn.specs.declared.trees.Ref.TheVariants.{Free, Bound}
-use Rattle.kv_syn.specs.Variables.{raised_ref, term_any, form_has, prog_has, modifies}
+use Rattle.kv_trees.specs.Same.{var_eq}
+use Rattle.kv_names.specs.Names.{Name}
+use Rattle.kv_trees.specs.Trees.{Term, Terms, Form, Prog}
+use Rattle.kv_names.specs.declared.symbols.Var.{Var}
+use Rattle.kv_trees.specs.declared.trees.Ref.{Ref}
+use Rattle.kv_trees.specs.declared.trees.Ref.TheVariants.{Free, Bound}
+use Rattle.kv_trees.specs.Variables.{raised_ref, term_any, form_has, prog_has, modifies}
 use Rattle.kv_subst.specs.Changing.{Change, changed_term, changed_terms, changed_form, changed_prog}
 
 -- Raising by n: n more binders stand around the tree, and the numbers of the binders outside it are n more.

@@ -1,7 +1,7 @@
 -- The largest number that a change of a tree meets on its way.
 use Rattle.std.specs.Prelude.{ℕ, ◌+◌, max, List, [], ◌∷◌}
-use Rattle.kv_syn.specs.Trees.{Term, Terms, Form, Prog}
-use Rattle.kv_syn.specs.declared.trees.Ref.{Ref}
+use Rattle.kv_trees.specs.Trees.{Term, Terms, Form, Prog}
+use Rattle.kv_trees.specs.declared.trees.Ref.{Ref}
 
 abbrev mutual
   -- the largest number that `most` tells of a variable of the term

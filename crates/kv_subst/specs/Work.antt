@@ -1,7 +1,7 @@
 -- The changes that the code makes.
 use Rattle.std.specs.Prelude.{ℕ, ◌+◌, max}
-use Rattle.kv_syn.specs.Bridge.{plain_term}
-use Rattle.kv_syn.specs.declared.trees.Ref.{Ref}
+use Rattle.kv_trees.specs.Bridge.{plain_term}
+use Rattle.kv_trees.specs.declared.trees.Ref.{Ref}
 use Rattle.kv_subst.specs.Changing.{Change}
 use Rattle.kv_subst.specs.Opening.{opened, closed}
 use Rattle.kv_subst.specs.Sizes.{ref_reach, term_reach}

@@ -1,6 +1,7 @@
 // What is done to the variables of a tree.
 
-use kv_syn::{Term, Var};
+use kv_names::Var;
+use kv_trees::Term;
 
 /// A change of variables.
 #[derive(Clone, Copy)]

@@ -1,7 +1,7 @@
 // Formulas and programs with other variables.
 
 ghost use Rattle.std.specs.Prelude.{◌≡◌, ◌<◌, ◌^◌, IfOk};
-ghost use Rattle.kv_syn.specs.Bridge.{plain_form, plain_prog};
+ghost use Rattle.kv_trees.specs.Bridge.{plain_form, plain_prog};
 ghost use Rattle.kv_subst.specs.Changing.{changed_form, changed_prog};
 ghost use Rattle.kv_subst.specs.Tops.{form_top, prog_top};
 ghost use Rattle.kv_subst.specs.Work.{change_of, most_of};
@@ -9,7 +9,8 @@ ghost use Rattle.kv_subst.specs.Work.{change_of, most_of};
 use crate::changes::Work;
 use crate::places::{ref_changed, refs_changed};
 use crate::terms::{shared_terms, term_changed};
-use kv_syn::{Form, NoMemory, Plain, Prog, Shared};
+use kv_names::{NoMemory, Plain, Shared};
+use kv_trees::{Form, Prog};
 use std::alloc::Global;
 
 #[cycle(form_changed)]

@@ -1,7 +1,6 @@
 // Laws of raising, opening, closing and renaming.
 
 ghost use Rattle.kv_subst.specs.Laws.{RaisingByNone, RaisingTwice, AdmissibleFits, OpeningTwice, OpeningRaised, RaisingOpened, RenamingOpened, RenamingOpenings, OpeningClosed, VariablesOpened, VariablesRenamed, BindersWithinDepth};
-ghost use Rattle.kv_subst.specs.Typings.{OpeningTyped, ClosingTyped, RenamingTyped};
 
 /// Raising by none changes nothing.
 pub fn raising_by_none()
@@ -61,19 +60,4 @@ pub fn variables_of_a_renaming()
 /// A limit on depth is one on binders.
 pub fn binders_within_depth()
     ensures { BindersWithinDepth }
-{}
-
-/// What is opened at a term of the binder's sort stays typed.
-pub fn typing_of_an_opening()
-    ensures { OpeningTyped }
-{}
-
-/// What is closed at a variable is typed under a binder of its sort.
-pub fn typing_of_a_closing()
-    ensures { ClosingTyped }
-{}
-
-/// What is renamed to a new name stays typed.
-pub fn typing_of_a_renaming()
-    ensures { RenamingTyped }
 {}

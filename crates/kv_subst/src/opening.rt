@@ -1,19 +1,20 @@
 // Opening and closing.
 
 ghost use Rattle.std.specs.Prelude.{◌≡◌, ◌+◌, ◌-◌, ◌<◌, ◌^◌, ◌↔◌, None, IfOk, IsErrOf};
-ghost use Rattle.kv_syn.specs.Bridge.{plain_term, plain_form, plain_prog};
-ghost use Rattle.kv_syn.specs.Trees.{Term as TermTree};
-ghost use Rattle.kv_syn.specs.declared.trees.Ref.{Ref};
-ghost use Rattle.kv_syn.specs.Variables.{form_binders, prog_binders};
+ghost use Rattle.kv_trees.specs.Bridge.{plain_term, plain_form, plain_prog};
+ghost use Rattle.kv_trees.specs.Trees.{Term as TermTree};
+ghost use Rattle.kv_trees.specs.declared.trees.Ref.{Ref};
+ghost use Rattle.kv_trees.specs.Variables.{form_binders, prog_binders};
 ghost use Rattle.kv_subst.specs.Changing.{changed_form, changed_prog};
 ghost use Rattle.kv_subst.specs.Opening.{opened, open_form, open_prog, close_form};
 ghost use Rattle.kv_subst.specs.Sizes.{term_reach, form_reach};
 ghost use Rattle.kv_subst.specs.Gives.{Gives};
 
-use crate::capture::{admissible, prog_admissible};
+use crate::capture::{admissible, admissible_at_var, prog_admissible};
 use crate::changes::Work;
 use crate::forms::{form_changed, prog_changed};
-use kv_syn::{Form, NoMemory, Plain, Prog, Ref, SubstError, Term, Var};
+use kv_names::{NoMemory, Plain, Var};
+use kv_trees::{Form, Prog, Ref, SubstError, Term};
 use std::alloc::Global;
 
 /// The body of a binder at the term, be that admissible or not.
@@ -55,13 +56,17 @@ pub fn open_prog(alloc: Global, body: &Prog, at: &Term) -> Result<Prog, SubstErr
     Ok(prog_opened(alloc, body, at)?)
 }
 
-/// The body of a binder at the variable; `Captured` where that isn't admissible.
+/// The body of a binder at the variable; `Captured` exactly where that isn't admissible.
 pub fn open_var(alloc: Global, body: &Form, at: &Var) -> Result<Form, SubstError>
     requires { form_binders (plain_form body.now) < 2 ^ 32 - 1 }
-    ensures { Gives plain_form result (open_form (plain_form body.now) (TermTree.Place (Ref.Free at.now))) }
+    ensures value { Gives plain_form result (open_form (plain_form body.now) (TermTree.Place (Ref.Free at.now))) }
+    ensures captured { IsErrOf result SubstError.Captured ↔ (open_form (plain_form body.now) (TermTree.Place (Ref.Free at.now)) ≡ None) }
 {
+    if !admissible_at_var(body, at) {
+        return Err(SubstError::Captured);
+    }
     let term = Term::Place(Ref::Free(at.copy(alloc)?));
-    open(alloc, body, &term)
+    Ok(form_opened(alloc, body, &term)?)
 }
 
 /// The body whose opening at the variable is the formula.

@@ -1,8 +1,8 @@
 // What becomes of one variable.
 
 ghost use Rattle.std.specs.Prelude.{◌≡◌, ◌+◌, ◌<◌, ◌^◌, max, map, IfOk};
-ghost use Rattle.kv_syn.specs.Bridge.{plain_term, plain_terms};
-ghost use Rattle.kv_syn.specs.Variables.{raised_ref};
+ghost use Rattle.kv_trees.specs.Bridge.{plain_term, plain_terms};
+ghost use Rattle.kv_trees.specs.Variables.{raised_ref};
 ghost use Rattle.kv_subst.specs.Changing.{changed_ref, changed_terms};
 ghost use Rattle.kv_subst.specs.Opening.{raised_term, raised_terms, opened, closed};
 ghost use Rattle.kv_subst.specs.Sizes.{ref_reach, term_reach, terms_reach};
@@ -10,7 +10,8 @@ ghost use Rattle.kv_subst.specs.Tops.{refs_top};
 ghost use Rattle.kv_subst.specs.Work.{change_of, most_of};
 
 use crate::changes::Work;
-use kv_syn::{List, NoMemory, Plain, Ref, Shared, Term, Var, is_var};
+use kv_names::{List, NoMemory, Plain, Shared, Var};
+use kv_trees::{Ref, Term, is_var};
 use std::alloc::Global;
 
 fn ref_raised(alloc: Global, place: &Ref, by: u32) -> Result<Ref, NoMemory>

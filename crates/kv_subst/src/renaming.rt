@@ -2,11 +2,12 @@
 // are counted.
 
 ghost use Rattle.std.specs.Prelude.{◌≡◌, ℕ, map, IfOk};
-ghost use Rattle.kv_syn.specs.Bridge.{plain_term, plain_terms, plain_form, plain_prog};
+ghost use Rattle.kv_trees.specs.Bridge.{plain_term, plain_terms, plain_form, plain_prog};
 ghost use Rattle.kv_subst.specs.Changing.{changed_term, changed_terms, changed_form, changed_prog};
 ghost use Rattle.kv_subst.specs.Opening.{renamed_var, renamed, rename_form};
 
-use kv_syn::{Form, List, Name, NoMemory, Plain, Prog, Ref, Shared, Term, Var, is_var};
+use kv_names::{List, Name, NoMemory, Plain, Shared, Var};
+use kv_trees::{Form, Prog, Ref, Term, is_var};
 use std::alloc::Global;
 
 /// The formula with another name for the variable, which keeps its sort.

@@ -1,14 +1,15 @@
 // Terms with other variables.
 
 ghost use Rattle.std.specs.Prelude.{◌≡◌, ◌<◌, ◌^◌, IfOk};
-ghost use Rattle.kv_syn.specs.Bridge.{plain_term, plain_terms};
+ghost use Rattle.kv_trees.specs.Bridge.{plain_term, plain_terms};
 ghost use Rattle.kv_subst.specs.Changing.{changed_term, changed_terms};
 ghost use Rattle.kv_subst.specs.Tops.{term_top, terms_top};
 ghost use Rattle.kv_subst.specs.Work.{change_of, most_of};
 
 use crate::changes::Work;
 use crate::places::place_changed;
-use kv_syn::{List, NoMemory, Plain, Shared, Term};
+use kv_names::{List, NoMemory, Plain, Shared};
+use kv_trees::Term;
 use std::alloc::Global;
 
 #[cycle(term_changed)]

@@ -1,16 +1,6 @@
-pub mod formers
-pub mod Trees
-pub mod Bridge
-pub mod RawTrees
-pub mod RawBridge
 pub mod Scripts
 pub mod ScriptBridge
-pub mod Count
-pub mod RawCount
 pub mod Readable
 pub mod Rows
 pub mod Projects
 pub mod ProjectBridge
-pub mod Same
-pub mod Lending
-pub mod Variables

@@ -1,7 +1,7 @@
 -- The units and projects of the code as plain data.
 use Rattle.std.specs.Prelude.{map}
 use Rattle.std.specs.Option.{option_map}
-use Rattle.kv_syn.specs.RawBridge.{raw_form, raw_prog, raw_term}
+use Rattle.kv_raw.specs.RawBridge.{raw_form, raw_prog, raw_term}
 use Rattle.kv_syn.specs.ScriptBridge.{plain_script}
 use Rattle.kv_syn.specs.Projects as P
 use Rattle.kv_syn.specs.declared.units.Item.{Item}

@@ -1,9 +1,9 @@
 -- Units and projects as plain data.
 use Rattle.std.specs.Prelude.{Bool, List, Option}
-use Rattle.kv_syn.specs.Trees.{Name}
-use Rattle.kv_syn.specs.RawTrees.{RawTerm, RawForm, RawProg}
+use Rattle.kv_names.specs.Names.{Name}
+use Rattle.kv_raw.specs.RawTrees.{RawTerm, RawForm, RawProg}
 use Rattle.kv_syn.specs.Scripts.{Script}
-use Rattle.kv_syn.specs.declared.symbols.Var.{Var}
+use Rattle.kv_names.specs.declared.symbols.Var.{Var}
 use Rattle.kv_syn.specs.declared.units.Data.{Data}
 use Rattle.kv_syn.specs.declared.units.Gen.{Gen}
 

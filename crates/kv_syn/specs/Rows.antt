@@ -5,17 +5,19 @@ use Rattle.kv_syn.specs.declared.outcomes.Fault.{Fault}
 use Rattle.kv_syn.specs.declared.outcomes.Reason.{Reason}
 use Rattle.kv_syn.specs.declared.outcomes.Row.{Row}
 use Rattle.kv_syn.specs.declared.outcomes.State.{State}
-use Rattle.kv_syn.specs.Trees.{Name}
+use Rattle.kv_names.specs.Names.{Name}
+use Rattle.kv_table.specs.Reasons.{reason_count}
+use Rattle.kv_table.specs.Rules.{rule_count}
 use Rattle.kv_syn.specs.declared.outcomes.State.TheVariants.{Ill, Broken}
 use Rattle.kv_syn.specs.declared.outcomes.Table.{Table}
 use Rattle.kv_syn.specs.declared.outcomes.UnitState.{UnitState}
 use Rattle.kv_syn.specs.declared.outcomes.UnitState.TheVariants.{Bad}
 
 abbrev pub is_rule_row : ℕ → Bool
-is_rule_row rule = nat_lt rule 38
+is_rule_row rule = nat_lt rule rule_count
 
 abbrev pub has_reason_row : Reason → Bool
-has_reason_row reason = nat_lt reason.word 30
+has_reason_row reason = nat_lt reason.word reason_count
 
 -- the rule and the reason of a fault, where there is one, are rows of their tables
 abbrev pub has_fault_rows : Option Fault → Bool

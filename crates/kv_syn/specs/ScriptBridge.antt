@@ -1,6 +1,6 @@
 -- The steps and scripts of the code as plain data.
 use Rattle.std.specs.Prelude.{List, [], ◌∷◌, map}
-use Rattle.kv_syn.specs.RawBridge.{raw_form, raw_term}
+use Rattle.kv_raw.specs.RawBridge.{raw_form, raw_term}
 use Rattle.kv_syn.specs.Scripts as P
 use Rattle.kv_syn.specs.declared.scripts.Script.{Script, fold-Script}
 use Rattle.kv_syn.specs.declared.scripts.Script.TheOpen.{Script-F, Hole, Node}

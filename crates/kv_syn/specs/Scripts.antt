@@ -1,7 +1,7 @@
 -- Steps and scripts as plain data.
 use Rattle.std.specs.Prelude.{ℕ, List, Option}
-use Rattle.kv_syn.specs.Trees.{Name}
-use Rattle.kv_syn.specs.RawTrees.{RawTerm, RawForm}
+use Rattle.kv_names.specs.Names.{Name}
+use Rattle.kv_raw.specs.RawTrees.{RawTerm, RawForm}
 use Rattle.kv_syn.specs.declared.scripts.Side.{Side}
 
 pub data StepText : Type 0 where

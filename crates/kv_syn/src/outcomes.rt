@@ -1,9 +1,8 @@
 // What a check answers.
 
-use crate::lists::List;
-use crate::names::{Label, Name};
 use crate::scripts::Path;
-use crate::trees::Form;
+use kv_names::{Label, List, Name};
+use kv_trees::Form;
 
 /// A theorem or obligation of a unit, as what has to be proved first.
 #[derive(Drop)]

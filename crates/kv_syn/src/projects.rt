@@ -4,8 +4,8 @@ ghost use Rattle.std.specs.Prelude.{◌≡◌, true};
 ghost use Rattle.std.specs.List.{list_all};
 ghost use Rattle.kv_syn.specs.Readable.{is_readable_unit};
 
-use crate::lists::List;
 use crate::units::Unit;
+use kv_names::List;
 
 /// A project: its units in order, each of a form that the texts of projects have so far.
 #[derive(Drop)]

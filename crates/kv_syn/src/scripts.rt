@@ -1,12 +1,11 @@
 // Proof scripts.
 
 ghost use Rattle.std.specs.Prelude.{◌<◌};
+ghost use Rattle.kv_table.specs.Rules.{rule_count};
 
-use crate::lists::List;
-use crate::names::{Label, Name};
-use crate::raws::{RawForm, RawTerm};
-use crate::shared::Shared;
-use crate::trees::{Form, Term};
+use kv_names::{Label, List, Name, Shared};
+use kv_raw::{RawForm, RawTerm};
+use kv_trees::{Form, Term};
 
 /// A side of a sequent.
 #[derive(Clone, Copy, Debug, PartialEq, Eq)]
@@ -34,7 +33,7 @@ pub struct Step {
     pub side: Option<Side>,
     pub numbers: List<u32>,
     pub text: StepText,
-    ghost row: { rule < 38 },
+    ghost row: { rule < rule_count },
 }
 
 /// The text of a step after typing.

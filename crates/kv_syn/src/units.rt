@@ -1,10 +1,8 @@
 // Projects: units of specification, their items, theorems and proofs, as texts spell them.
 
-use crate::lists::List;
-use crate::names::{Label, Name};
-use crate::raws::{RawForm, RawProg, RawTerm};
 use crate::scripts::Script;
-use crate::symbols::Var;
+use kv_names::{Label, List, Name, Var};
+use kv_raw::{RawForm, RawProg, RawTerm};
 
 /// An axiom or theorem. `simp` offers it to the simplifier as a rule.
 #[derive(Drop)]

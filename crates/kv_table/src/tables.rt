@@ -1,12 +1,16 @@
 // The five tables of words.
 
 ghost use Rattle.std.specs.Prelude.{◌≡◌};
-ghost use Rattle.kv_table.specs.Tables.{keyword_rows, rule_rows, command_rows, state_rows, reason_rows};
+ghost use Rattle.kv_table.specs.Commands.{command_rows};
+ghost use Rattle.kv_table.specs.Keywords.{keyword_rows};
+ghost use Rattle.kv_table.specs.Reasons.{reason_rows};
+ghost use Rattle.kv_table.specs.Rules.{rule_rows};
+ghost use Rattle.kv_table.specs.States.{state_rows};
 
 use crate::names::Names;
 
 /// The keywords, which no name is.
-#[tactic(auto, unfolding(crate::specs::Tables::keyword_rows))]
+#[tactic(auto, unfolding(crate::specs::Keywords::keyword_rows))]
 pub fn keywords() -> Names<49>
     ensures { result ≡ keyword_rows }
 {
@@ -64,7 +68,7 @@ pub fn keywords() -> Names<49>
 }
 
 /// The words of the rules, in the order of the rule table.
-#[tactic(auto, unfolding(crate::specs::Tables::rule_rows))]
+#[tactic(auto, unfolding(crate::specs::Rules::rule_rows))]
 pub fn rules() -> Names<38>
     ensures { result ≡ rule_rows }
 {
@@ -77,7 +81,7 @@ pub fn rules() -> Names<38>
 }
 
 /// The words of the commands: the edits, then the queries.
-#[tactic(auto, unfolding(crate::specs::Tables::command_rows))]
+#[tactic(auto, unfolding(crate::specs::Commands::command_rows))]
 pub fn commands() -> Names<20>
     ensures { result ≡ command_rows }
 {
@@ -106,7 +110,7 @@ pub fn commands() -> Names<20>
 }
 
 /// The words of the states of rows and of units.
-#[tactic(auto, unfolding(crate::specs::Tables::state_rows))]
+#[tactic(auto, unfolding(crate::specs::States::state_rows))]
 pub fn states() -> Names<11>
     ensures { result ≡ state_rows }
 {
@@ -126,7 +130,7 @@ pub fn states() -> Names<11>
 }
 
 /// The words of the reasons.
-#[tactic(auto, unfolding(crate::specs::Tables::reason_rows))]
+#[tactic(auto, unfolding(crate::specs::Reasons::reason_rows))]
 pub fn reasons() -> Names<30>
     ensures { result ≡ reason_rows }
 {

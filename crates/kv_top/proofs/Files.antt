@@ -1,6 +1,6 @@
 -- What reading and loading say, together.
 use Rattle.std.proofs.Common.{◌≡◌, ◌≤◌, ℕ, List, length, Option, Some, None, Result, Ok, Err, IfErr, IfSome, sym, subst}
-use Rattle.kv_io.specs.declared.outside.TheConstants.{FILE_LIMIT}
+use Rattle.kv_io.specs.Limits.{file_limit}
 use Rattle.kv_punit.specs.ReadsAs.{Reads, IsRefused}
 use Rattle.kv_punit.specs.declared.errors.TextError.{TextError}
 use Rattle.kv_punit.specs.declared.errors.TextError.TheVariants as text
@@ -22,7 +22,7 @@ says_refused bytes fault h status e = subst (λ s. ReadSays bytes (Err s)) (sym 
     go text.NoMemory h = tt
 
 -- bytes that were loaded were read
-pub says_read : (bytes : List ℕ) (result : Result Project Status) → length bytes ≤ FILE_LIMIT → ReadSays bytes result → LoadSays (Some bytes) result
+pub says_read : (bytes : List ℕ) (result : Result Project Status) → length bytes ≤ file_limit → ReadSays bytes result → LoadSays (Some bytes) result
 says_read bytes (Ok project) small h = (small, h)
 says_read bytes (Err Refused) small h = (small, h)
 says_read bytes (Err NoMemory) small h = tt
@@ -35,7 +35,7 @@ says_read bytes (Err Cut) small h = h
 says_read bytes (Err TooLong) small h = absurd h
 says_read bytes (Err NoProject) small h = absurd h
 
-pub says_held : (held : Option (Option (List ℕ))) (bytes : List ℕ) (result : Result Project Status) → length bytes ≤ FILE_LIMIT → IfSome held (λ file. file ≡ Some bytes)
+pub says_held : (held : Option (Option (List ℕ))) (bytes : List ℕ) (result : Result Project Status) → length bytes ≤ file_limit → IfSome held (λ file. file ≡ Some bytes)
     → ReadSays bytes result → IfSome held (λ file. LoadSays file result)
 says_held None bytes result small told h = tt
 says_held (Some file) bytes result small told h = subst (λ f. LoadSays f result) (sym told) (says_read bytes result small h)

@@ -2,7 +2,7 @@
 use Rattle.std.specs.Prelude.{◌≡◌, ◌≤◌, ◌<◌, ℕ, List, length, Option, None, Result, Ok, Err, IsSomeAnd}
 use Rattle.kv_fresh.specs.States.{table_of}
 use Rattle.kv_io.specs.Outside.{Adds, AddsFront}
-use Rattle.kv_io.specs.declared.outside.TheConstants.{FILE_LIMIT}
+use Rattle.kv_io.specs.Limits.{file_limit}
 use Rattle.kv_punit.specs.ReadsAs.{Reads}
 use Rattle.kv_punit.specs.declared.errors.TextError.{TextError}
 use Rattle.kv_punit.specs.declared.errors.TextError.TheVariants as text
@@ -15,15 +15,15 @@ use Rattle.kv_top.specs.declared.status.Status.TheVariants.{Done, Usage, ReadFau
 
 -- the file is there, isn't too long, and is a spelling of the project
 abbrev pub Spells : Option (List ℕ) → P.Project → Type 0
-Spells file project = IsSomeAnd file (λ bytes. (length bytes ≤ FILE_LIMIT) × Reads bytes project)
+Spells file project = IsSomeAnd file (λ bytes. (length bytes ≤ file_limit) × Reads bytes project)
 
 -- the file is too long
 abbrev pub IsLong : Option (List ℕ) → Type 0
-IsLong file = IsSomeAnd file (λ bytes. FILE_LIMIT < length bytes)
+IsLong file = IsSomeAnd file (λ bytes. file_limit < length bytes)
 
 -- the file isn't too long, and is no spelling of a project
 abbrev pub IsUnreadable : Option (List ℕ) → Type 0
-IsUnreadable file = IsSomeAnd file (λ bytes. (length bytes ≤ FILE_LIMIT) × ((project : P.Project) → Reads bytes project → ⊥))
+IsUnreadable file = IsSomeAnd file (λ bytes. (length bytes ≤ file_limit) × ((project : P.Project) → Reads bytes project → ⊥))
 
 -- the answer to `status` for a project
 unfoldable pub answer_of : P.Project → List ℕ

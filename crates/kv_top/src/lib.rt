@@ -8,5 +8,5 @@ mod words;
 mod writing;
 
 pub use running::run;
-pub use status::{Status, message};
+pub use status::{Status, code, message};
 pub use words::Mode;

@@ -1,30 +1,30 @@
 // How a call of the program ends.
 
 ghost use Rattle.std.specs.Prelude.{◌≡◌};
-ghost use Rattle.kv_top.specs.Statuses.{message_of};
+ghost use Rattle.kv_top.specs.Statuses.{code_of, message_of};
 
-/// How a call of the program ends, with the exit code that it gives.
+/// How a call of the program ends.
 #[derive(Clone, Copy, Debug, PartialEq, Eq)]
 pub enum Status {
     /// All was done.
-    Done = 0,
+    Done,
     /// The words aren't well formed.
-    Usage = 2,
+    Usage,
     /// The input couldn't be read.
-    ReadFault = 3,
+    ReadFault,
     /// The output couldn't be written.
-    WriteFault = 4,
-    NoMemory = 5,
+    WriteFault,
+    NoMemory,
     /// The project couldn't be loaded or saved.
-    StoreFault = 6,
+    StoreFault,
     /// The stored bytes aren't a project.
-    Refused = 7,
+    Refused,
     /// The input ended inside a command.
-    Cut = 8,
+    Cut,
     /// The stored file, a command or the input is too long.
-    TooLong = 9,
+    TooLong,
     /// There is no stored file.
-    NoProject = 10,
+    NoProject,
 }
 
 /// The words for a status.
@@ -42,5 +42,23 @@ pub fn message(status: Status) -> &'static str
         Status::Cut => "cut",
         Status::TooLong => "too long",
         Status::NoProject => "no project",
+    }
+}
+
+/// The exit code for a status.
+pub fn code(status: Status) -> u8
+    ensures { result ≡ code_of status }
+{
+    match status {
+        Status::Done => 0,
+        Status::Usage => 2,
+        Status::ReadFault => 3,
+        Status::WriteFault => 4,
+        Status::NoMemory => 5,
+        Status::StoreFault => 6,
+        Status::Refused => 7,
+        Status::Cut => 8,
+        Status::TooLong => 9,
+        Status::NoProject => 10,
     }
 }

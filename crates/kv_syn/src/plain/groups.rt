@@ -2,8 +2,7 @@
 
 ghost use Rattle.std.specs.Prelude.{◌≡◌, IfOk};
 
-use crate::memory::NoMemory;
-use crate::plain::Plain;
+use kv_names::{NoMemory, Plain};
 use std::alloc::Global;
 
 /// Copies of the two. `NoMemory` where an allocation fails.

@@ -2,10 +2,8 @@
 
 ghost use Rattle.std.specs.Prelude.{◌≡◌, ◌↔◌, IfOk, IsTrue};
 
-use crate::lists::List;
-use crate::memory::NoMemory;
-use crate::plain::Plain;
 use crate::scripts::Script;
+use kv_names::{List, NoMemory, Plain};
 use std::alloc::Global;
 
 impl Plain for Script {

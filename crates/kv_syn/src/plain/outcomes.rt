@@ -1,9 +1,8 @@
 // Copies and comparisons of what a check answers.
 
-use crate::memory::NoMemory;
 use crate::outcomes::{Entry, Fault, Look, Need, Outcome, Reason, Row, State, Table, UnitState};
-use crate::plain::Plain;
 use crate::plain::groups::copy_three;
+use kv_names::{NoMemory, Plain};
 use std::alloc::Global;
 
 impl Plain for Need {

@@ -1,8 +1,7 @@
 // Copies and comparisons of projects.
 
-use crate::memory::NoMemory;
-use crate::plain::Plain;
 use crate::projects::Project;
+use kv_names::{NoMemory, Plain};
 use std::alloc::Global;
 
 impl Plain for Project {

@@ -1,8 +1,7 @@
 // Copies and comparisons of steps and scripts.
 
-use crate::memory::NoMemory;
-use crate::plain::Plain;
 use crate::scripts::{Side, Step, StepText, TypedStep, TypedText};
+use kv_names::{NoMemory, Plain};
 use std::alloc::Global;
 
 impl Plain for Side {

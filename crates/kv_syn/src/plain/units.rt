@@ -1,9 +1,8 @@
 // Copies and comparisons of units.
 
-use crate::memory::NoMemory;
-use crate::plain::Plain;
 use crate::plain::groups::{copy_four, copy_three, copy_two};
 use crate::units::{Cons, Data, Datum, Gen, Item, Kind, Map, Mod, Proof, Theorem, Unit};
+use kv_names::{NoMemory, Plain};
 use std::alloc::Global;
 
 impl Plain for Theorem {

@@ -1,7 +1,7 @@
 use Rattle.std.proofs.Common.{◌≡◌, []}
-use Rattle.kv_syn.specs.Bridge.{plain_form}
-use Rattle.kv_syn.specs.RawBridge.{raw_form}
-use Rattle.kv_syn.specs.Trees as P
+use Rattle.kv_trees.specs.Bridge.{plain_form}
+use Rattle.kv_raw.specs.RawBridge.{raw_form}
+use Rattle.kv_trees.specs.Trees as P
 use Rattle.kv_sig.specs.FreeNames.{IsClosed}
 use Rattle.kv_sig.specs.Typing.{IsForm}
 use Rattle.kv_elab.specs.Elab.{elab_form}

@@ -1,6 +1,6 @@
-use Rattle.kv_syn.specs.Bridge.{plain_prog}
-use Rattle.kv_syn.specs.RawBridge.{raw_prog}
-use Rattle.kv_syn.specs.Trees as P
+use Rattle.kv_trees.specs.Bridge.{plain_prog}
+use Rattle.kv_raw.specs.RawBridge.{raw_prog}
+use Rattle.kv_trees.specs.Trees as P
 use Rattle.kv_sig.specs.Typing.{IsProg}
 use Rattle.kv_elab.specs.Elab.{elab_prog}
 use Rattle.kv_elab.specs.Lawful.{sorts_of, IsLawful}

@@ -1,5 +1,5 @@
 use Rattle.std.proofs.Common.{◌≡◌, drop}
-use Rattle.kv_syn.specs.RawBridge.{raw_terms}
+use Rattle.kv_raw.specs.RawBridge.{raw_terms}
 use Rattle.kv_elab.specs.Elab.{elab_args}
 use Rattle.kv_elab.proofs.Lists.{after}
 use Rattle.kv_elab.proofs.terms.+typed_term.Given as goal

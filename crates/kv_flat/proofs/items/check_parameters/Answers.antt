@@ -5,7 +5,7 @@ use Rattle.kv_flat.proofs.Parameters.{SoFar, by_sort, left_at, none_yet, one_mor
 use Rattle.kv_flat.specs.Faults.{Finds}
 use Rattle.kv_flat.specs.Items.{parameters_fault, sort_fault}
 use Rattle.kv_syn.specs.declared.outcomes.Reason.{Reason}
-use Rattle.kv_syn.specs.declared.symbols.Var.{Var}
+use Rattle.kv_names.specs.declared.symbols.Var.{Var}
 use Rattle.kv_flat.proofs.items.check_parameters.Goals as goal
 
 pub loop-parameter-init : goal.loop-parameter-init

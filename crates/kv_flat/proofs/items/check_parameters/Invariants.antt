@@ -1,6 +1,6 @@
 use Rattle.std.proofs.Common.{drop, map}
 use Rattle.std.specs.Borrow.{Bor}
-use Rattle.kv_syn.specs.declared.symbols.Var.{Var}
+use Rattle.kv_names.specs.declared.symbols.Var.{Var}
 use Rattle.kv_flat.proofs.Parameters.{SoFar}
 use Rattle.kv_flat.proofs.items.check_parameters.Given as goal
 

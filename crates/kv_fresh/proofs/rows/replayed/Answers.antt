@@ -4,7 +4,7 @@ use Rattle.kv_script.specs.Events.{outcome_of, replay_events}
 use Rattle.kv_sig.specs.Signatures.{profile_of}
 use Rattle.kv_sig.specs.Views.{View, formula_of, view_of}
 use Rattle.kv_sig.specs.declared.flats.Flat.{Flat}
-use Rattle.kv_syn.specs.Bridge.{plain_form}
+use Rattle.kv_trees.specs.Bridge.{plain_form}
 use Rattle.kv_syn.specs.declared.outcomes.Entry.{Entry}
 use Rattle.kv_syn.specs.ScriptBridge.{plain_script, plain_script_step}
 use Rattle.kv_syn.specs.Scripts.{Script}

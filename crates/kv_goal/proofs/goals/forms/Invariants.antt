@@ -1,5 +1,5 @@
 use Rattle.std.proofs.Common.{◌≡◌, take, map}
-use Rattle.kv_syn.specs.Bridge.{plain_form}
+use Rattle.kv_trees.specs.Bridge.{plain_form}
 use Rattle.kv_goal.specs.Goals.{plain_known}
 use Rattle.kv_goal.proofs.goals.forms.Given as goal
 

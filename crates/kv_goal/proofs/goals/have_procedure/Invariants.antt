@@ -2,8 +2,8 @@ use Rattle.std.proofs.Common.{◌≡◌, drop, map}
 use Rattle.std.specs.List.{list_any}
 use Rattle.std.specs.Str.{bytes_eq}
 use Rattle.kv_sig.specs.FreeNames.{assumed_forms}
-use Rattle.kv_syn.specs.Trees.{Name}
-use Rattle.kv_syn.specs.declared.symbols.Profile.{Profile}
+use Rattle.kv_names.specs.Names.{Name}
+use Rattle.kv_names.specs.declared.symbols.Profile.{Profile}
 use Rattle.kv_goal.specs.Goals.{plain_known}
 use Rattle.kv_goal.proofs.goals.have_procedure.Given as goal
 

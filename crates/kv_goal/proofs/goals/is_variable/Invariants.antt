@@ -1,7 +1,7 @@
 use Rattle.std.proofs.Common.{◌≡◌, drop}
 use Rattle.std.specs.List.{list_any}
 use Rattle.std.specs.Str.{bytes_eq}
-use Rattle.kv_syn.specs.declared.symbols.Var.{Var}
+use Rattle.kv_names.specs.declared.symbols.Var.{Var}
 use Rattle.kv_goal.proofs.goals.is_variable.Given as goal
 
 abbrev pub invariant-loop-variable : goal.invariant-loop-variable

@@ -1,8 +1,8 @@
 use Rattle.std.proofs.Common.{ℕ, List, drop}
 use Rattle.std.specs.Borrow.{Bor}
 use Rattle.std.specs.Str.{bytes_eq}
-use Rattle.kv_syn.specs.Trees.{Name}
-use Rattle.kv_syn.specs.declared.symbols.Profile.{Profile}
+use Rattle.kv_names.specs.Names.{Name}
+use Rattle.kv_names.specs.declared.symbols.Profile.{Profile}
 use Rattle.kv_goal.proofs.Keys.{Names, names_agree}
 use Rattle.kv_goal.proofs.Seen.{SoFar}
 use Rattle.kv_goal.proofs.once.procedures_once.Given as goal

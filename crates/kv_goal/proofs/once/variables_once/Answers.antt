@@ -1,8 +1,7 @@
 use Rattle.std.proofs.Common.{ℕ, List, sym}
 use Rattle.std.specs.Borrow.{Bor}
 use Rattle.std.specs.Str.{bytes_eq}
-use Rattle.kv_syn.specs.Trees.{Name}
-use Rattle.kv_syn.specs.declared.symbols.Var.{Var}
+use Rattle.kv_names.specs.declared.symbols.Var.{Var}
 use Rattle.kv_goal.proofs.Keys.{Names, names_agree}
 use Rattle.kv_goal.proofs.Seen.{all_seen, at, ended, left_at, moved, none_more, none_seen, one_more, pushed}
 use Rattle.kv_goal.proofs.once.variables_once.Goals as goal

@@ -1,6 +1,6 @@
 use Rattle.std.proofs.Common.{◌≡◌, ◌<◌, ◌+◌, ◌-◌, ◌^◌, min, max, drop}
-use Rattle.kv_syn.specs.Bridge.{plain_terms}
-use Rattle.kv_syn.specs.Count.{terms_nodes, terms_depth}
+use Rattle.kv_trees.specs.Bridge.{plain_terms}
+use Rattle.kv_trees.specs.Count.{terms_nodes, terms_depth}
 use Rattle.kv_goal.proofs.sizes.+term_size.Given as goal
 
 abbrev pub invariant-terms_size-loop-term : goal.invariant-terms_size-loop-term

@@ -1,5 +1,5 @@
 use Rattle.std.proofs.Common.{◌≡◌, max, drop}
-use Rattle.kv_syn.specs.Bridge.{plain_terms}
+use Rattle.kv_trees.specs.Bridge.{plain_terms}
 use Rattle.kv_subst.specs.Sizes.{terms_reach}
 use Rattle.kv_parts.proofs.sizes.+reach_of_term.Given as goal
 

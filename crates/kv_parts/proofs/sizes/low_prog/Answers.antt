@@ -1,6 +1,6 @@
 use Rattle.std.proofs.Common.{arith}
-use Rattle.kv_syn.specs.Bridge.{plain_prog}
-use Rattle.kv_syn.proofs.Depths.{prog_within}
+use Rattle.kv_trees.specs.Bridge.{plain_prog}
+use Rattle.kv_trees.proofs.Depths.{prog_within}
 use Rattle.kv_parts.proofs.sizes.low_prog.Goals as goal
 
 pub returns-then-depth-le1000 : goal.returns-then-depth-le1000

@@ -1,7 +1,7 @@
 use Rattle.std.proofs.Common.{◌≡◌, ◌-◌, ◌∙◌, ap, arith, length, subst, sym, drop}
 use Rattle.std.specs.Prelude.{Some, Ok}
 use Rattle.std.proofs.lemmas.Result.{err_from_is_err_and}
-use Rattle.kv_syn.specs.RawBridge.{raw_form}
+use Rattle.kv_raw.specs.RawBridge.{raw_form}
 use Rattle.kv_pexpr.specs.Gives.{kinds, seen, Gives}
 use Rattle.kv_pexpr.specs.Grammar.{ReadsForm}
 use Rattle.kv_pexpr.proofs.Finds.{Behind, behind, tail_range, stands, read_there, placed, handed_on, is_longest, is_only}

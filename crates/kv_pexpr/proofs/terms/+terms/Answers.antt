@@ -1,8 +1,8 @@
 use Rattle.std.proofs.Common.{arith, rules, ap, sym, ◌∙◌, ◌-◌, ◌+◌, length}
 use Rattle.std.specs.Prelude.{map, Some}
 use Rattle.std.proofs.lemmas.Grind.{common_steps}
-use Rattle.kv_syn.specs.RawBridge.{raw_term, raw_terms}
-use Rattle.kv_syn.specs.RawTrees.{RawTerm as RawTree}
+use Rattle.kv_raw.specs.RawBridge.{raw_term, raw_terms}
+use Rattle.kv_raw.specs.RawTrees.{RawTerm as RawTree}
 use Rattle.kv_pexpr.specs.Gives.{kinds}
 use Rattle.kv_pexpr.specs.Parse as spec
 use Rattle.kv_pexpr.proofs.Pushed.{pushed_map, pushed_terms, pushed_depth}

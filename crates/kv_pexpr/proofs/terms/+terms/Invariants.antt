@@ -1,7 +1,7 @@
 use Rattle.std.proofs.Common.{◌≡◌, ◌+◌, ◌*◌, ◌-◌, ◌≤◌, length}
 use Rattle.std.specs.Prelude.{map}
-use Rattle.kv_syn.specs.RawBridge.{raw_term, raw_terms}
-use Rattle.kv_syn.specs.RawCount.{raw_terms_depth}
+use Rattle.kv_raw.specs.RawBridge.{raw_term, raw_terms}
+use Rattle.kv_raw.specs.RawCount.{raw_terms_depth}
 use Rattle.kv_pexpr.specs.Gives.{kinds}
 use Rattle.kv_pexpr.specs.Parse as spec
 use Rattle.kv_pexpr.proofs.TermTurns.{ahead}

@@ -2,8 +2,8 @@ use Rattle.std.proofs.Common.{◌≡◌, ◌<◌, List, [], ◌∷◌, ◌++◌,
 use Rattle.std.specs.Prelude.{codes}
 use Rattle.std.proofs.lemmas.Bool.Decides.{nat_tests}
 use Rattle.std.proofs.lemmas.Grind.{common_steps}
-use Rattle.kv_syn.specs.RawBridge.{raw_terms}
-use Rattle.kv_syn.specs.declared.raws.RawTerm.{RawTerm}
+use Rattle.kv_raw.specs.RawBridge.{raw_terms}
+use Rattle.kv_raw.specs.declared.raws.RawTerm.{RawTerm}
 use Rattle.kv_print.specs.Forms.{in_brackets, terms_pieces}
 use Rattle.kv_print.specs.Pieces.{Piece}
 use Rattle.kv_print.specs.Pieces.Piece.{Mark}

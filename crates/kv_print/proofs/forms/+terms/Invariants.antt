@@ -1,5 +1,5 @@
 use Rattle.std.proofs.Common.{◌≡◌, ◌++◌, drop}
-use Rattle.kv_syn.specs.RawBridge.{raw_terms}
+use Rattle.kv_raw.specs.RawBridge.{raw_terms}
 use Rattle.kv_print.specs.Forms.{more_terms}
 use Rattle.kv_print.specs.Pieces.{spell}
 use Rattle.kv_print.proofs.forms.+terms.Given as goal

@@ -1,6 +1,6 @@
 use Rattle.std.proofs.Common.{◌≡◌, take, map}
-use Rattle.kv_syn.specs.Bridge.{plain_term}
-use Rattle.kv_syn.specs.RawBridge.{raw_term}
+use Rattle.kv_trees.specs.Bridge.{plain_term}
+use Rattle.kv_raw.specs.RawBridge.{raw_term}
 use Rattle.kv_print.specs.Shown.{shown_term}
 use Rattle.kv_print.proofs.shown.+term_shown.Given as goal
 

@@ -1,5 +1,5 @@
 use Rattle.std.proofs.Common.{◌≡◌, ◌<◌, ◌+◌, ◌-◌, ◌^◌, min, max, drop, map}
-use Rattle.kv_syn.specs.Count.{forms_nodes, forms_depth}
+use Rattle.kv_trees.specs.Count.{forms_nodes, forms_depth}
 use Rattle.kv_goal.specs.Goals.{plain_known}
 use Rattle.kv_prop.proofs.drafts.known_size.Given as goal
 

@@ -1,9 +1,9 @@
 use Rattle.std.proofs.Common.{sym, ap, ◌∙◌}
 use Rattle.std.specs.Bool.{one_answer}
-use Rattle.kv_syn.specs.Bridge.{plain_term}
-use Rattle.kv_syn.specs.Same.{term_eq}
-use Rattle.kv_syn.proofs.Inverse.{coded_term, term_back}
-use Rattle.kv_syn.proofs.Same.{term_is, term_same}
+use Rattle.kv_trees.specs.Bridge.{plain_term}
+use Rattle.kv_trees.specs.Same.{term_eq}
+use Rattle.kv_trees.proofs.Inverse.{coded_term, term_back}
+use Rattle.kv_trees.proofs.Same.{term_is, term_same}
 use Rattle.kv_prop.proofs.equality.are_same_terms.Goals as goal
 
 pub returns : goal.returns

@@ -1,4 +1,4 @@
-use Rattle.kv_syn.specs.Bridge.{plain_term}
+use Rattle.kv_trees.specs.Bridge.{plain_term}
 use Rattle.kv_subst.specs.Opening.{opened}
 use Rattle.kv_prop.proofs.Apps.{app_size}
 use Rattle.kv_prop.proofs.opening.+term_opened_size.Goals as goal

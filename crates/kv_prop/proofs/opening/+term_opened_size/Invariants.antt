@@ -1,6 +1,6 @@
 use Rattle.std.proofs.Common.{◌≡◌, ◌<◌, ◌+◌, ◌-◌, ◌^◌, min, max, drop}
-use Rattle.kv_syn.specs.Bridge.{plain_term, plain_terms}
-use Rattle.kv_syn.specs.Count.{terms_nodes, terms_depth}
+use Rattle.kv_trees.specs.Bridge.{plain_term, plain_terms}
+use Rattle.kv_trees.specs.Count.{terms_nodes, terms_depth}
 use Rattle.kv_subst.specs.Changing.{changed_terms}
 use Rattle.kv_subst.specs.Opening.{opened}
 use Rattle.kv_prop.proofs.opening.+term_opened_size.Given as goal

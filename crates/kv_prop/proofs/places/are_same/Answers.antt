@@ -1,9 +1,9 @@
 use Rattle.std.proofs.Common.{sym, ap, ◌∙◌}
 use Rattle.std.specs.Bool.{one_answer}
-use Rattle.kv_syn.specs.Bridge.{plain_form}
-use Rattle.kv_syn.specs.Same.{form_eq}
-use Rattle.kv_syn.proofs.Inverse.{same_plain}
-use Rattle.kv_syn.proofs.Same.{form_is, form_same}
+use Rattle.kv_trees.specs.Bridge.{plain_form}
+use Rattle.kv_trees.specs.Same.{form_eq}
+use Rattle.kv_trees.proofs.Inverse.{same_plain}
+use Rattle.kv_trees.proofs.Same.{form_is, form_same}
 use Rattle.kv_prop.proofs.places.are_same.Goals as goal
 
 pub returns : goal.returns

@@ -1,4 +1,4 @@
-use Rattle.kv_syn.specs.Bridge.{plain_term}
+use Rattle.kv_trees.specs.Bridge.{plain_term}
 use Rattle.kv_prop.proofs.Apps.{stays_after, stays_can}
 use Rattle.kv_prop.proofs.replacing.+form_stays.Goals as goal
 

@@ -1,6 +1,6 @@
 use Rattle.std.proofs.Common.{◌≡◌, drop, length}
-use Rattle.kv_syn.specs.Bridge.{plain_terms}
-use Rattle.kv_syn.specs.Same.{terms_eq}
+use Rattle.kv_trees.specs.Bridge.{plain_terms}
+use Rattle.kv_trees.specs.Same.{terms_eq}
 use Rattle.kv_subst.specs.Opening.{raised_terms}
 use Rattle.kv_prop.proofs.replacing.+is_raised.Given as goal
 

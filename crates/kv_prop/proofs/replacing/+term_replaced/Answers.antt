@@ -1,5 +1,5 @@
 use Rattle.std.proofs.Common.{arith}
-use Rattle.kv_syn.specs.Bridge.{plain_term}
+use Rattle.kv_trees.specs.Bridge.{plain_term}
 use Rattle.kv_subst.specs.Opening.{raised_term}
 use Rattle.kv_prop.proofs.Each.{replaced_each}
 use Rattle.kv_prop.proofs.replacing.+term_replaced.Goals as goal

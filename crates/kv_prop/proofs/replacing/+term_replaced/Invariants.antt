@@ -1,5 +1,5 @@
 use Rattle.std.proofs.Common.{◌≡◌, take, map}
-use Rattle.kv_syn.specs.Bridge.{plain_term}
+use Rattle.kv_trees.specs.Bridge.{plain_term}
 use Rattle.kv_subst.specs.Opening.{raised_term}
 use Rattle.kv_prop.specs.Replacing.{replaced_term}
 use Rattle.kv_prop.proofs.replacing.+term_replaced.Given as goal

@@ -1,6 +1,6 @@
 use Rattle.std.proofs.Common.{◌≡◌, ◌<◌, ◌+◌, ◌-◌, ◌^◌, min, max, drop}
-use Rattle.kv_syn.specs.Bridge.{plain_term, plain_terms}
-use Rattle.kv_syn.specs.Count.{terms_nodes, terms_depth}
+use Rattle.kv_trees.specs.Bridge.{plain_term, plain_terms}
+use Rattle.kv_trees.specs.Count.{terms_nodes, terms_depth}
 use Rattle.kv_subst.specs.Opening.{raised_term}
 use Rattle.kv_prop.specs.Replacing.{replaced_terms}
 use Rattle.kv_prop.proofs.replacing.+term_replaced_size.Given as goal

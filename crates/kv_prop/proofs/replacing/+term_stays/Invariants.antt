@@ -1,6 +1,6 @@
 use Rattle.std.proofs.Common.{◌≡◌, drop}
-use Rattle.kv_syn.specs.Bridge.{plain_term, plain_terms}
-use Rattle.kv_syn.specs.Same.{terms_eq}
+use Rattle.kv_trees.specs.Bridge.{plain_term, plain_terms}
+use Rattle.kv_trees.specs.Same.{terms_eq}
 use Rattle.kv_subst.specs.Opening.{raised_term}
 use Rattle.kv_prop.specs.Replacing.{replaced_terms}
 use Rattle.kv_prop.proofs.replacing.+term_stays.Given as goal

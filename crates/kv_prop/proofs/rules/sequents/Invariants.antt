@@ -1,5 +1,5 @@
 use Rattle.std.proofs.Common.{◌≡◌, take, map}
-use Rattle.kv_syn.specs.Bridge.{plain_sequent}
+use Rattle.kv_trees.specs.Bridge.{plain_sequent}
 use Rattle.kv_goal.specs.Goals.{plain_goal}
 use Rattle.kv_prop.proofs.rules.sequents.Given as goal
 

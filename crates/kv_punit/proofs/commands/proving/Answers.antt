@@ -3,8 +3,8 @@ use Rattle.std.specs.Prelude.{Err}
 use Rattle.std.specs.Borrow.{Bor}
 use Rattle.kv_lex.specs.declared.token.Token.{Token}
 use Rattle.kv_syn.specs.ProjectBridge.{plain_proof}
-use Rattle.kv_syn.specs.Trees.{Name}
-use Rattle.kv_table.specs.declared.command.TheConstants as words
+use Rattle.kv_names.specs.Names.{Name}
+use Rattle.kv_table.specs.Commands as words
 use Rattle.kv_pexpr.specs.Gives.{kinds}
 use Rattle.kv_punit.specs.Commands.{plain_command}
 use Rattle.kv_punit.specs.Gives.{Finds}

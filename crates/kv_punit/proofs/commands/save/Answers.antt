@@ -1,6 +1,6 @@
 use Rattle.std.proofs.Common.{rules}
 use Rattle.std.specs.Prelude.{Err}
-use Rattle.kv_table.specs.declared.command.TheConstants as words
+use Rattle.kv_table.specs.Commands as words
 use Rattle.kv_pexpr.specs.Gives.{kinds}
 use Rattle.kv_punit.specs.Commands.{plain_command}
 use Rattle.kv_punit.specs.Gives.{Finds}

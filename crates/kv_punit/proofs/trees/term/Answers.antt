@@ -1,8 +1,8 @@
 use Rattle.std.proofs.Common.{◌≡◌, ◌∙◌, List, ap, sym, rules}
 use Rattle.std.specs.Prelude.{Some, Err}
 use Rattle.kv_lex.specs.declared.token.Token.{Token}
-use Rattle.kv_syn.specs.RawBridge.{raw_term}
-use Rattle.kv_syn.specs.declared.raws.RawTerm.{RawTerm}
+use Rattle.kv_raw.specs.RawBridge.{raw_term}
+use Rattle.kv_raw.specs.declared.raws.RawTerm.{RawTerm}
 use Rattle.kv_pexpr.specs.Gives.{kinds, Gives}
 use Rattle.kv_pexpr.proofs.Finds.{tail_range}
 use Rattle.kv_punit.specs.Gives.{seen}

@@ -3,7 +3,7 @@ use Rattle.std.specs.Prelude.{Err}
 use Rattle.kv_lex.specs.declared.token.TokenKind.{TokenKind}
 use Rattle.kv_syn.specs.ProjectBridge.{plain_theorem}
 use Rattle.kv_syn.specs.Projects as P
-use Rattle.kv_syn.specs.RawBridge.{raw_form}
+use Rattle.kv_raw.specs.RawBridge.{raw_form}
 use Rattle.kv_pexpr.specs.Gives.{kinds}
 use Rattle.kv_pexpr.specs.Grammar.{Stops}
 use Rattle.kv_punit.specs.Gives.{seen, IsThat}

@@ -3,7 +3,7 @@ use Rattle.std.proofs.lemmas.List.{length-map}
 use Rattle.std.specs.Prelude.{List, Err}
 use Rattle.std.specs.Borrow.{Bor}
 use Rattle.kv_lex.specs.declared.token.Token.{Token}
-use Rattle.kv_table.specs.declared.keyword.TheConstants as word
+use Rattle.kv_table.specs.Keywords as word
 use Rattle.kv_syn.specs.ProjectBridge.{plain_theorem}
 use Rattle.kv_pexpr.specs.Gives.{kinds}
 use Rattle.kv_punit.specs.Ends.{NoTheorem, AllTheorems}

@@ -2,7 +2,7 @@ use Rattle.std.proofs.Common.{rules, List, map}
 use Rattle.std.specs.Prelude.{Err}
 use Rattle.std.specs.Borrow.{Bor}
 use Rattle.kv_lex.specs.declared.token.Token.{Token}
-use Rattle.kv_table.specs.declared.keyword.TheConstants as word
+use Rattle.kv_table.specs.Keywords as word
 use Rattle.kv_syn.specs.ProjectBridge.{plain_proof, plain_theorem, plain_unit}
 use Rattle.kv_pexpr.specs.Gives.{kinds}
 use Rattle.kv_punit.specs.Gives.{seen, Finds}

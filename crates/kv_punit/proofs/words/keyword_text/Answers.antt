@@ -1,6 +1,6 @@
 use Rattle.std.proofs.Common.{◌≡◌, refl, arith, length, sym}
 use Rattle.std.proofs.lemmas.Option.{slice_get_past}
-use Rattle.kv_table.specs.Tables.{keyword_rows}
+use Rattle.kv_table.specs.Keywords.{keyword_rows}
 use Rattle.kv_punit.proofs.words.keyword_text.Goals as goal
 
 keyword_count : length keyword_rows ≡ 49

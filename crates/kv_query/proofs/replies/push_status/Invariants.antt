@@ -1,7 +1,7 @@
 use Rattle.std.proofs.Common.{◌≡◌, ◌++◌, true, drop}
 use Rattle.std.specs.List.{list_all}
 use Rattle.kv_query.specs.Replies.{status_lines}
-use Rattle.kv_syn.specs.Trees.{Name}
+use Rattle.kv_names.specs.Names.{Name}
 use Rattle.kv_syn.specs.declared.outcomes.UnitState.{UnitState}
 use Rattle.kv_syn.specs.Rows.{has_row_rows, has_unit_state_rows}
 use Rattle.kv_query.proofs.replies.push_status.Given as goal

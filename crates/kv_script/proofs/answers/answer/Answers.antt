@@ -12,17 +12,17 @@ returns-in-Err-clause-answer c =
     let v = view_of c.args.env.now.flat.now in
     let s = plain_goal c.args.goal.now in
     let step = plain_step c.args.step.now in
-    let told = fault_is plain_typed_text c.in-Err.fault _ c.in-Err.ensures c.in_ok-typing_reason-in-Err.ensures.fault in
-    ap Err c.in_ok-typing_reason-in-Err.ensures.reason ∙ sym (answer_refused v s step c.args.children.now _ (step_faulty v s step c.in-Err.fault told))
+    let told = fault_is plain_typed_text c.in-Err.fault _ c.in-Err.ensures c.in_ok-typing_reason-in-Err.field-0 c.in_ok-typing_reason-in-Err.ensures.reason in
+    ap Err (sym told.2) ∙ sym (answer_refused v s step c.args.children.now _ (step_faulty v s step told.0 told.1))
 
 pub returns-in_ok-reason_of-in-Err-premises-clause-answer : goal.returns-in_ok-reason_of-in-Err-premises-clause-answer
 returns-in_ok-reason_of-in-Err-premises-clause-answer c =
     let v = view_of c.args.env.now.flat.now in
     let s = plain_goal c.args.goal.now in
     let step = plain_step c.args.step.now in
-    let refused = refusal_is (map plain_goal) c.in-Err-premises.error _ c.in-Err-premises.ensures c.in_ok-reason_of-in-Err-premises.ensures.refusal in
-    ap Err c.in_ok-reason_of-in-Err-premises.ensures.reason
-    ∙ sym (answer_refused v s step c.args.children.now _ (step_refused v s step (plain_typed_text c.in-Ok.text) c.in-Ok.ensures c.in-Err-premises.error refused))
+    let refused = refusal_is (map plain_goal) c.in-Err-premises.error _ c.in-Err-premises.ensures c.in_ok-reason_of-in-Err-premises.field-0 c.in_ok-reason_of-in-Err-premises.ensures.reason in
+    ap Err (sym refused.2)
+    ∙ sym (answer_refused v s step c.args.children.now _ (step_refused v s step (plain_typed_text c.in-Ok.text) c.in-Ok.ensures refused.0 refused.1))
 
 pub returns-then-items-children-clause-answer : goal.returns-then-items-children-clause-answer
 returns-then-items-children-clause-answer c =

@@ -1,8 +1,8 @@
 use Rattle.std.proofs.Common.{rules}
 use Rattle.kv_script.proofs.Answered.{form_faulty, form_given, term_faulty, term_given}
 use Rattle.kv_goal.specs.Goals.{plain_goal}
-use Rattle.kv_syn.specs.Bridge.{plain_form, plain_term}
-use Rattle.kv_syn.specs.RawBridge.{raw_form, raw_term}
+use Rattle.kv_trees.specs.Bridge.{plain_form, plain_term}
+use Rattle.kv_raw.specs.RawBridge.{raw_form, raw_term}
 use Rattle.kv_script.proofs.answers.typed_text.Goals as goal
 
 pub returns-in_err-term-in-OfTerm : goal.returns-in_err-term-in-OfTerm

@@ -1,5 +1,5 @@
 use Rattle.std.proofs.Common.{◌≡◌, ◌++◌, drop}
-use Rattle.kv_syn.specs.RawBridge.{raw_terms}
+use Rattle.kv_raw.specs.RawBridge.{raw_terms}
 use Rattle.kv_elab.specs.Names.{terms_names}
 use Rattle.kv_script.proofs.looks.+term_names.Given as goal
 

@@ -1,7 +1,7 @@
 use Rattle.std.proofs.Common.{None, ap₂, subst}
 use Rattle.kv_script.specs.Events.{events}
 use Rattle.kv_script.proofs.Derived.{derives}
-use Rattle.kv_syn.specs.Bridge.{plain_form}
+use Rattle.kv_trees.specs.Bridge.{plain_form}
 use Rattle.kv_sig.specs.Views.{view_of}
 use Rattle.kv_script.specs.Tallies.{Told}
 use Rattle.kv_script.proofs.Outcomes.{started, told_outcome, where_ok}

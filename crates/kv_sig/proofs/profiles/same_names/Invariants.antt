@@ -1,5 +1,5 @@
 use Rattle.std.proofs.Common.{◌≡◌, drop}
-use Rattle.kv_sig.specs.Signatures.{names_eq}
+use Rattle.kv_trees.specs.Same.{names_eq}
 use Rattle.kv_sig.proofs.profiles.same_names.Given as goal
 
 abbrev pub invariant-loop-i : goal.invariant-loop-i

@@ -1,5 +1,5 @@
 use Rattle.std.proofs.Common.{max, arith}
-use Rattle.kv_syn.specs.Bridge.{plain_form}
+use Rattle.kv_trees.specs.Bridge.{plain_form}
 use Rattle.kv_subst.specs.Sizes.{ref_reach}
 use Rattle.kv_subst.proofs.Sizes.{form_reached}
 use Rattle.kv_subst.proofs.opening.close_var.Goals as goal

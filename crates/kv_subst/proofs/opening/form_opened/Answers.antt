@@ -1,5 +1,5 @@
 use Rattle.std.proofs.Common.{◌+◌, arith}
-use Rattle.kv_syn.specs.Bridge.{plain_term, plain_form}
+use Rattle.kv_trees.specs.Bridge.{plain_term, plain_form}
 use Rattle.kv_subst.specs.Sizes.{term_reach}
 use Rattle.kv_subst.proofs.Sizes.{form_above}
 use Rattle.kv_subst.proofs.opening.form_opened.Goals as goal

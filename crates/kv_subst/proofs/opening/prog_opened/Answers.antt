@@ -1,5 +1,5 @@
 use Rattle.std.proofs.Common.{◌+◌, arith}
-use Rattle.kv_syn.specs.Bridge.{plain_term, plain_prog}
+use Rattle.kv_trees.specs.Bridge.{plain_term, plain_prog}
 use Rattle.kv_subst.specs.Sizes.{term_reach}
 use Rattle.kv_subst.proofs.Sizes.{prog_above}
 use Rattle.kv_subst.proofs.opening.prog_opened.Goals as goal

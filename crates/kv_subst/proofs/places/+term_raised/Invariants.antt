@@ -1,5 +1,5 @@
 use Rattle.std.proofs.Common.{◌≡◌, ◌+◌, ◌<◌, ◌^◌, take, drop, map}
-use Rattle.kv_syn.specs.Bridge.{plain_term, plain_terms}
+use Rattle.kv_trees.specs.Bridge.{plain_term, plain_terms}
 use Rattle.kv_subst.specs.Opening.{raised_term}
 use Rattle.kv_subst.specs.Sizes.{terms_reach}
 use Rattle.kv_subst.proofs.places.+term_raised.Given as goal

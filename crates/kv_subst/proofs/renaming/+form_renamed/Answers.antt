@@ -1,7 +1,7 @@
 use Rattle.std.proofs.Common.{◌≡◌, ℕ, ap, ◌∙◌}
-use Rattle.kv_syn.specs.Bridge.{plain_form, plain_prog}
-use Rattle.kv_syn.specs.declared.trees.Form.{Form}
-use Rattle.kv_syn.specs.declared.trees.Prog.{Prog}
+use Rattle.kv_trees.specs.Bridge.{plain_form, plain_prog}
+use Rattle.kv_trees.specs.declared.trees.Form.{Form}
+use Rattle.kv_trees.specs.declared.trees.Prog.{Prog}
 use Rattle.kv_subst.specs.Changing.{changed_form, changed_prog}
 use Rattle.kv_subst.specs.Opening.{renamed}
 use Rattle.kv_subst.proofs.Told.{told}

@@ -1,5 +1,5 @@
 use Rattle.std.proofs.Common.{◌≡◌, take, map}
-use Rattle.kv_syn.specs.Bridge.{plain_term}
+use Rattle.kv_trees.specs.Bridge.{plain_term}
 use Rattle.kv_subst.specs.Changing.{changed_term}
 use Rattle.kv_subst.specs.Opening.{renamed}
 use Rattle.kv_subst.proofs.renaming.+term_renamed.Given as goal

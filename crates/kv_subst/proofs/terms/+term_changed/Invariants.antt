@@ -1,5 +1,5 @@
 use Rattle.std.proofs.Common.{◌≡◌, ◌<◌, ◌^◌, take, drop, map}
-use Rattle.kv_syn.specs.Bridge.{plain_term, plain_terms}
+use Rattle.kv_trees.specs.Bridge.{plain_term, plain_terms}
 use Rattle.kv_subst.specs.Changing.{changed_term}
 use Rattle.kv_subst.specs.Tops.{terms_top}
 use Rattle.kv_subst.specs.Work.{change_of, most_of}

@@ -1,6 +1,6 @@
 use Rattle.std.proofs.Common.{arith, ◌∙◌, ap, sym, ◌-◌, ◌+◌}
 use Rattle.std.proofs.lemmas.Grind.{common_steps}
-use Rattle.kv_syn.specs.RawBridge.{raw_form}
+use Rattle.kv_raw.specs.RawBridge.{raw_form}
 use Rattle.kv_pexpr.specs.Gives.{kinds, joined}
 use Rattle.kv_pexpr.specs.Parse as spec
 use Rattle.kv_pexpr.proofs.Chain.{too_high, no_operator, no_operand, one_turn, no_turn}

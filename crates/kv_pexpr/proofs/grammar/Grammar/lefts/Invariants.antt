@@ -1,6 +1,6 @@
 use Rattle.std.proofs.Common.{◌≡◌, ◌-◌, ◌≤◌}
-use Rattle.kv_syn.specs.RawBridge.{raw_form}
-use Rattle.kv_syn.specs.RawCount.{raw_form_depth}
+use Rattle.kv_raw.specs.RawBridge.{raw_form}
+use Rattle.kv_raw.specs.RawCount.{raw_form_depth}
 use Rattle.kv_pexpr.specs.Gives.{kinds, joined}
 use Rattle.kv_pexpr.specs.Parse as spec
 use Rattle.kv_pexpr.proofs.grammar.Grammar.lefts.Given as goal

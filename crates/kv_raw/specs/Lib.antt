@@ -1,0 +1,3 @@
+pub mod RawTrees
+pub mod RawBridge
+pub mod RawCount

@@ -1,0 +1,4 @@
+// Copies and comparisons.
+
+mod raw_forms;
+mod raw_terms;

@@ -1,4 +1,0 @@
-pub mod Same
-pub mod Induction
-pub mod Inverse
-pub mod Depths

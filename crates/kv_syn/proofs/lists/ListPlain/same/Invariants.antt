@@ -1,5 +1,0 @@
-use Rattle.std.proofs.Common.{◌≡◌, take, length}
-use Rattle.kv_syn.proofs.lists.ListPlain.same.Given as goal
-
-abbrev pub invariant-loop-i : goal.invariant-loop-i
-invariant-loop-i g l = (length l.xs ≡ length l.ys) × (take l.i l.xs ≡ take l.i l.ys)

@@ -1,0 +1,5 @@
+pub mod Same
+pub mod Induction
+pub mod Inverse
+pub mod Depths
+pub mod Equality

@@ -1,0 +1,4 @@
+// Copies and comparisons.
+
+mod forms;
+mod terms;
