@@ -188,3 +188,13 @@ class Lines:
         end = self.data.find(b"\n", begin)
         text = self.data[begin:len(self.data) if end < 0 else end].decode(errors="replace")
         return begin + len(text[:max(column, 1) - 1].encode())
+
+
+def put_at(data, part, path, text):
+    """A script that leads to the place at a path as the proof does, and has the text there; all beside the path is open."""
+    rest, script_text = script(part), ""
+    for number in path:
+        step = next(pieces(rest, (b";", b"{", b"|", b"}")))
+        script_text += span(data, step).decode() + " { " + "open | " * (number - 1)
+        rest = child(rest, number)
+    return script_text + text + " }" * len(path)
