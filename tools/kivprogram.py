@@ -2,7 +2,6 @@
 import os
 import shutil
 import subprocess
-import sys
 import tempfile
 import time
 
@@ -80,6 +79,6 @@ class Program:
                     self.tell(f"kivd {mode} has run for {time.monotonic() - begin:.0f} s")
 
 
-def fail(tool, message):
-    """Ends a tool that can't do what it was asked."""
-    sys.exit(f"{tool}: {message}")
+def read(path):
+    with open(path, "rb") as it:
+        return it.read()
