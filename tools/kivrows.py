@@ -77,10 +77,10 @@ class File:
         return sorted(rows, key=lambda it: it.byte)
 
     def answers(self, sent):
-        """The first line of the answer to each command, all handed to one run over the empty project."""
+        """The first line of the answer to each command, all handed to one run over the empty project; of a long one that is none."""
         fits = [len(it.bytes) <= kivprogram.LONGEST_COMMAND for it in sent]
         answers = iter(self.program.run(kivprogram.EMPTY, [it.bytes for it, is_in in zip(sent, fits) if is_in]).answers())
-        return [next(answers, ["not answered"])[0] if is_in else "not handed over" for is_in in fits]
+        return ["".join(next(answers, [])[:1]) if is_in else "" for is_in in fits]
 
     def unread_row(self, part, sent, line):
         """The row of a part that doesn't read, by the answer to it."""
@@ -106,10 +106,18 @@ class File:
                 refused = middle
             else:
                 reads = middle
+        head = self.until(0)
         if refused == 0:
-            return Row(None, "a file begins with `project 1`, and then a unit comes", kind="file", name="project")
+            why = "a file begins with `project 1`, and then a unit comes"
+            return self.untold(kivtext.Sent(b"", head, 0), "project") or Row(None, why, kind="file", name="project")
         part = self.parts[refused - 1]
-        return Row(part, self.misplaced(part, self.until(refused - 1)))
+        behind = self.until(refused)[part.end:]
+        return self.untold(kivtext.Sent(b"status ", behind, part.end), part.shown()) or Row(part, self.misplaced(part, self.until(refused - 1)))
+
+    def untold(self, sent, name):
+        """A row for a byte that begins no token in what stands between the parts, or None."""
+        line = self.answers([sent])[0]
+        return Row(None, "no token", sent.place(int(line.split()[2])), "file", name) if line.startswith("no token") else None
 
     def until(self, count):
         """The text of the file up to the end of so many parts."""

@@ -91,7 +91,7 @@ def command(data, part, unit):
     """The command that hands a part over; a theorem or a proof goes to the unit of that name."""
     if part.kind == "unit":
         return Sent(b"add ", data[part.begin:part.end], part.begin)
-    end = part.tokens[-2 if part.has_end() else -1].end
+    end = part.tokens[-1].begin if part.has_end() else part.end
     begin = part.tokens[0].end
     return Sent(f"{part.kind} {unit}".encode(), data[begin:end], begin)
 

@@ -117,6 +117,22 @@ class Unread(WithFolder):
         self.told(UNIT + "theorem t : a\nproof t = open qed\n", "7:9: A.t: no `;` at the end of this theorem")
         self.told(UNIT + "theorem t : a;\nproof t = open\n", "8:7: A.t: no `qed` at the end of this proof")
 
+    def test_a_byte_that_is_no_text(self):
+        for text, told in (
+            (UNIT + "theorem t : a % ?\n;\n", "7:17: A.t: no token: this theorem doesn't read"),
+            (UNIT + "theorem t : a; % ?\nproof t = open qed\n", "7:18: A.t: no token"),
+            (UNIT + "theorem t : a;\n% ?", "8:3: A.t: no token"),
+            ("project 1 % ?\n" + UNIT.removeprefix("project 1"), "1:13: project: no token"),
+        ):
+            with open(os.path.join(self.folder, "x.kiv"), "wb") as it:
+                it.write(text.encode().replace(b"?", b"\xff"))
+            self.assertEqual(self.call("--quiet", "x.kiv")[:2], (1, f"x.kiv:{told}\n{REFUSED}"))
+
+    def test_limits(self):
+        self.told("project 1\n" + "".join(f"unit U{i} basic end\n" for i in range(502)), "502:6: U500: no limit units: this unit can't stand here")
+        self.told(UNIT + "".join(f"theorem t{i} : a;\n" for i in range(5002)), "5007:9: A.t5000: no limit theorems: this theorem can't stand here")
+        self.told(UNIT + f"proof t = cut a {{ {' | '.join(['cut a'] * 50001)} }} qed\n", "7:7: A.t: no limit steps: this proof doesn't read")
+
     def test_no_unit(self):
         self.told("project 1\ntheorem t : a;\n", "2:9: t: no unit stands before this theorem")
 

@@ -77,6 +77,9 @@ class Sends(WithFolder):
         self.assertEqual((code, output, error), (0, "new.kiv:10:7: A.t: proved\n", ""))
         self.assertEqual(os.listdir(self.folder), [])
 
+    def test_no_unit(self):
+        self.sends("project 1\ntheorem t : a;\n", "2", "2:9: t: no unit stands before this theorem")
+
     def test_nothing_there(self):
         self.put("x.kiv", "project 1\n\n" + TEXT[TEXT.index("unit"):])
         for place in ("1", "A.v", "B"):
