@@ -3,6 +3,7 @@ import kivprogram
 import kivtext
 
 GOOD = ("ok", "proved")
+STATES = GOOD + ("open", "broken", "ill", "waiting", "cyclic", "idle", "bad", "refined", "unrefined")
 
 
 class Row:
@@ -23,7 +24,8 @@ class Row:
     def as_json(self, file, lines):
         line, column = lines.place(self.byte)
         told = {"file": file, "line": line, "column": column, "byte": self.byte, "kind": self.kind, "name": self.name}
-        told |= {"state": self.state.split(" ")[0], "text": self.state}
+        word = self.state.split(" ")[0]
+        told |= {"state": word if word in STATES else "refused", "text": self.state}
         if self.broken():
             told |= dict(zip(("path", "rule", "reason"), self.broken()))
         return told

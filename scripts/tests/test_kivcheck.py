@@ -145,6 +145,14 @@ class Unread(WithFolder):
         self.told(UNIT + theorems.replace("t2500 : a", "t2500 : and"), "2507:9: A.t2500: no syntax: this theorem doesn't read")
         self.told(UNIT + theorems.replace("t2500", "t7"), "2507:9: A.t7: no exists A.t7: this theorem can't stand here")
 
+    def test_as_json(self):
+        self.put("x.kiv", UNIT + "theorem t : a ->;\n")
+        code, output, _ = self.call("--json", "--quiet", "x.kiv")
+        told = json.loads(output)
+        self.assertEqual((code, told["proved"], told["sum"]), (1, False, "0 theorems, 1 file that can't be read"))
+        row = {"file": "x.kiv", "line": 7, "column": 9, "byte": 69, "kind": "theorem", "name": "A.t", "state": "refused"}
+        self.assertEqual(told["rows"], [row | {"text": "no syntax: this theorem doesn't read"}])
+
     def test_progress(self):
         self.put("x.kiv", UNIT + "theorem t : ;\n")
         self.assertIn("handed over one by one", self.call("x.kiv")[2])
