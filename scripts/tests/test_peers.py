@@ -32,7 +32,8 @@ class Peers(WithFolder):
         sys.path.insert(0, os.path.join(ROOT, "bench"))
         import peers
         peers.put(self.folder, "Some.v", peers.coq_text(0, 5, 2))
-        self.assertEqual(peers.timed(["coqc", "-q", "Some.v"], self.folder)[2:], (0, ""))
+        ran = peers.Run(["coqc", "-q", "Some.v"], self.folder)
+        self.assertEqual((ran.code, ran.output), (0, ""))
 
 
 if __name__ == "__main__":
